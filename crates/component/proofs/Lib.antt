@@ -1,0 +1,4 @@
+pub mod Limits
+pub mod Mask
+pub mod Row
+pub mod Facts

@@ -1,0 +1,4 @@
+pub mod Kind
+pub mod Row
+pub mod Facts
+pub mod Netlist

@@ -1,0 +1,68 @@
+-- The calls as functions of the bytes lent to them.
+use Prim.Native.Nat.{ℕ, _+_, _*_, _/_, _%_}
+use mathlib.Core.Bool.{cond, not, _||_}
+use mathlib.Core.List.{List, [], _∷_, _++_}
+use lib.ListN.{length, drop}
+use lib.Dec.{ltb, eqb}
+use Rattle.reader.specs.Reading.{readAs, reading}
+use Rattle.fabric.specs.PackedFile.{packedFile}
+use Rattle.record.specs.Table.{openTable}
+use Rattle.refusals.specs.Refusals.{Test, test, firstRefusal}
+use Rattle.reader.specs.File.{headerFields, coloursIn, componentsIn, channelsIn, firstBadRow, wireTests, fileTests}
+use Rattle.refusals.specs.declared.Refusal.the-variants.{Range, Length, Field, Space}
+use Rattle.refusals.specs.declared.Verdict.{Verdict}
+use Rattle.refusals.specs.declared.Verdict.the-variants.{Accepted, Refused}
+use Rattle.reader.specs.declared.Reading.{Reading}
+use Rattle.reader.specs.declared.Reading.the-variants.{Fabric, Rejected}
+
+-- ---- unpack 1-8, 23
+abbrev pub unpackTests : List ℕ → ℕ → List Test
+unpackTests file space = fileTests file ++ (test Space (ltb space (24 * componentsIn (headerFields file))) ∷ [])
+
+unfoldable pub unpacked : List ℕ → ℕ → Reading
+unpacked file space = let h : List ℕ = headerFields file in readAs (firstRefusal (unpackTests file space)) (coloursIn h) (channelsIn h) (componentsIn h)
+
+-- lent memory keeps its former bytes if the call is refused, as do bytes past the written part on success
+abbrev pub tableAfter : Reading → List ℕ → List ℕ → List ℕ
+tableAfter (Fabric colours channels n) file table = openTable file n ++ drop (24 * n) table
+tableAfter (Rejected r) file table = table
+
+unfoldable pub unpackedTable : List ℕ → List ℕ → List ℕ
+unpackedTable file table = tableAfter (unpacked file (length table)) file table
+
+-- ---- pack 4, 3, 6, 7, 8, 23
+-- 4 in pack, first of all, not a multiple of 24. 3 N, M or (pack) C outside its range.
+abbrev pub rowTests : ℕ → ℕ → List ℕ → ℕ → List Test
+rowTests colours channels table n =
+    test Length (not (eqb (length table % 24) 0))
+    ∷ test Range (eqb n 0 || ltb 128 n || eqb channels 0 || ltb 255 channels || eqb colours 0 || ltb 8 colours)
+    ∷ test (Field (firstBadRow colours channels table n)) (ltb (firstBadRow colours channels table n) n)
+    ∷ wireTests table n channels
+
+abbrev pub packTests : ℕ → ℕ → List ℕ → ℕ → List Test
+packTests colours channels table space = rowTests colours channels table (length table / 24) ++ (test Space (ltb space (4 + 13 * (length table / 24))) ∷ [])
+
+unfoldable pub packed : ℕ → ℕ → List ℕ → ℕ → Verdict
+packed colours channels table space = firstRefusal (packTests colours channels table space)
+
+abbrev pub fileAfter : Verdict → ℕ → ℕ → List ℕ → List ℕ → List ℕ
+fileAfter Accepted colours channels table file = packedFile colours channels table (length table / 24) ++ drop (4 + 13 * (length table / 24)) file
+fileAfter (Refused r) colours channels table file = file
+
+unfoldable pub packedInto : ℕ → ℕ → List ℕ → List ℕ → List ℕ
+packedInto colours channels table file = fileAfter (packed colours channels table (length file)) colours channels table file
+
+-- ---- record: the 13 bytes of component k in the lent file itself, or an empty part if the file is refused by one of 1-8 or k is N or more
+abbrev pub partStart : Reading → ℕ → ℕ
+partStart (Fabric colours channels n) k = cond (ltb k n) (4 + 13 * k) 0
+partStart (Rejected r) k = 0
+
+abbrev pub partLength : Reading → ℕ → ℕ
+partLength (Fabric colours channels n) k = cond (ltb k n) 13 0
+partLength (Rejected r) k = 0
+
+unfoldable pub recordStart : List ℕ → ℕ → ℕ
+recordStart file k = partStart (reading file) k
+
+unfoldable pub recordLength : List ℕ → ℕ → ℕ
+recordLength file k = partLength (reading file) k

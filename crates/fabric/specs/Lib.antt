@@ -1,0 +1,3 @@
+pub mod PackedFile
+pub mod Calls
+pub mod Steps

@@ -1,0 +1,208 @@
+// Unpack, pack and record: the calls on the packed fabric and its open table.
+ghost use mathlib.Core.Path.{_≡_};
+ghost use Prim.Native.Nat.{_+_, _*_, _/_, _%_, _≤_, _<_};
+ghost use mathlib.Core.List.{_++_};
+ghost use lib.ListN.{length, take, drop};
+ghost use Rattle.reader.specs.File.{firstBadRow};
+ghost use Rattle.fabric.specs.PackedFile.{headerBytes, packedFile};
+ghost use Rattle.fabric.specs.Calls.{unpacked, unpackedTable, packed, packedInto, recordStart, recordLength};
+ghost use Rattle.fabric.specs.Steps.{roomFor, withRoom, tableVerdict};
+use reader::Reading;
+use refusals::Refusal;
+use refusals::Verdict;
+
+// The verdict with so much space for what needs so much.
+fn room_for(v: Verdict, space: usize, need: usize) -> Verdict
+    ensures { λ r. ⌜ r ≡ roomFor v space need ⌝ }
+{
+    match v {
+        Verdict::Accepted => {
+            if space < need {
+                return Verdict::Refused(Refusal::Space);
+            }
+            Verdict::Accepted
+        }
+        Verdict::Refused(first) => Verdict::Refused(first),
+    }
+}
+
+// What unpack answers with so much space for the table of a file that is read so.
+fn with_room(found: Reading, space: usize) -> Reading
+    ensures { λ r. ⌜ r ≡ withRoom found space ⌝ }
+{
+    match found {
+        Reading::Rejected(e) => Reading::Rejected(e),
+        Reading::Fabric {
+            colours,
+            channels,
+            components,
+        } => {
+            if space < 24 * components as usize {
+                return Reading::Rejected(Refusal::Space);
+            }
+            Reading::Fabric {
+                colours,
+                channels,
+                components,
+            }
+        }
+    }
+}
+
+// What unpack answers, with so much space.
+pub fn unpack_answer(file: &[u8], space: usize) -> Reading
+    ensures { λ r. ⌜ r ≡ unpacked (now (file .entry)) space ⌝ }
+{
+    with_room(reader::reading_of(file), space)
+}
+
+// Writes the open table of a file.
+pub fn unpack(file: &[u8], table: &mut [u8]) -> Reading
+    ensures { λ r. ⌜ (r ≡ unpacked (now (file .entry)) (length (now (table .entry)))) × (now (table .exit) ≡ unpackedTable (now (file .entry)) (now (table .entry))) ⌝ }
+{
+    let mut rows = [0u8; 3072];
+    let mut ends = [0u16; 513];
+    let mut order = [0u16; 510];
+    let found = reader::read(file, &mut rows, &mut ends, &mut order);
+    match with_room(found, table.len()) {
+        Reading::Rejected(e) => Reading::Rejected(e),
+        Reading::Fabric {
+            colours,
+            channels,
+            components,
+        } => {
+            digits::copy(&rows, 24 * components as usize, &mut *table, 0);
+            Reading::Fabric {
+                colours,
+                channels,
+                components,
+            }
+        }
+    }
+}
+
+// The 13 bytes of component k in the file itself, or an empty part.
+pub fn record(file: &[u8], k: usize) -> &[u8]
+    ensures { λ r. ⌜ (now r ≡ take (recordLength (now (file .entry)) k) (drop (recordStart (now (file .entry)) k) (now (file .entry))))
+        × (r .ptr ≡ (file .entry .ptr .0, recordStart (now (file .entry)) k + file .entry .ptr .1)) ⌝ }
+{
+    match reader::reading_of(file) {
+        Reading::Rejected(_e) => &file[0..0],
+        Reading::Fabric {
+            colours: _,
+            channels: _,
+            components,
+        } => {
+            let n = components as usize;
+            if k < n {
+                let start = 4 + 13 * k;
+                let end = start + 13;
+                return &file[start..end];
+            }
+            &file[0..0]
+        }
+    }
+}
+
+// The header's 4 bytes, of which c is one less than the count of colours.
+fn header_of(c: u8, components: u8, channels: u8, check: u8) -> [u8; 4]
+    requires { ⌜ c < 8 ⌝ }
+    ensures { λ r. ⌜ r ≡ headerBytes (c + 1) components channels check ⌝ }
+{
+    [16 + c * 2, components, channels, check]
+}
+
+// Writes the 4 bytes at the front.
+fn put_header(out: &mut [u8], h: [u8; 4])
+    requires { ⌜ 4 ≤ length (now out) ⌝ }
+    ensures { λ _. ⌜ now (out .exit) ≡ h ++ drop 4 (now (out .entry)) ⌝ }
+{
+    out[0] = h[0];
+    out[1] = h[1];
+    out[2] = h[2];
+    out[3] = h[3];
+}
+
+// Writes the whole file: records, the header with no check byte, and the header again with it.
+fn put_file(c: u8, channels: u8, table: &[u8], components: u8, out: &mut [u8])
+    requires { ⌜ (c < 8) × (24 * components ≤ length (now table)) × (4 + 13 * components ≤ length (now out)) ⌝ }
+    ensures { λ _. ⌜ now (out .exit) ≡ packedFile (c + 1) channels (now (table .entry)) components ++ drop (4 + 13 * components) (now (out .entry)) ⌝ }
+{
+    let n = components as usize;
+    record::put_records(table, n, &mut *out);
+    put_header(&mut *out, header_of(c, components, channels, 0));
+    let end = 4 + 13 * n;
+    let s = digits::byte_sum(&out[..end]);
+    put_header(
+        &mut *out,
+        header_of(c, components, channels, digits::negate(s)),
+    );
+}
+
+// The lowest of n rows that is wrong, or n.
+fn first_bad_row(table: &[u8], n: usize, colours: u8, channels: u8) -> usize
+    requires { ⌜ (24 * n ≤ length (now table)) × (colours ≤ 8) ⌝ }
+    ensures { λ r. ⌜ r ≡ firstBadRow colours channels (now (table .entry)) n ⌝ }
+{
+    let mut k: usize = 0;
+    while k < n {
+        if reader::bad_row(table, k, colours, channels) {
+            return k;
+        }
+        k += 1;
+    }
+    n
+}
+
+// The refusals 6 to 8 of a table of n rows.
+fn table_verdict(table: &[u8], n: usize, colours: u8, channels: u8) -> Verdict
+    requires { ⌜ (length (now table) ≡ 24 * n) × (n ≤ 128) × (colours ≤ 8) ⌝ }
+    ensures { λ r. ⌜ r ≡ tableVerdict colours channels (now (table .entry)) n ⌝ }
+{
+    let bad = first_bad_row(table, n, colours, channels);
+    if bad < n {
+        return Verdict::Refused(Refusal::Field(bad));
+    }
+    let mut ends = [0u16; 513];
+    let mut order = [0u16; 510];
+    let found = wiring::wire(table, n, channels as usize, &mut ends, &mut order);
+    reader::wired_verdict(found)
+}
+
+// What pack answers, with so much space.
+pub fn pack_answer(colours: u64, channels: u64, table: &[u8], space: usize) -> Verdict
+    ensures { λ r. ⌜ r ≡ packed colours channels (now (table .entry)) space ⌝ }
+{
+    let n = table.len() / 24;
+    if table.len() % 24 != 0 {
+        return Verdict::Refused(Refusal::Length);
+    }
+    if (n == 0) | (128 < n) | (channels == 0) | (255 < channels) | (colours == 0) | (8 < colours) {
+        return Verdict::Refused(Refusal::Range);
+    }
+    room_for(
+        table_verdict(table, n, colours as u8, channels as u8),
+        space,
+        4 + 13 * n,
+    )
+}
+
+// Writes the packed file of a table.
+pub fn pack(colours: u64, channels: u64, table: &[u8], file: &mut [u8]) -> Verdict
+    ensures { λ r. ⌜ (r ≡ packed colours channels (now (table .entry)) (length (now (file .entry)))) × (now (file .exit) ≡ packedInto colours channels (now (table .entry)) (now (file .entry))) ⌝ }
+{
+    match pack_answer(colours, channels, table, file.len()) {
+        Verdict::Refused(e) => Verdict::Refused(e),
+        Verdict::Accepted => {
+            let n = table.len() / 24;
+            put_file(
+                (colours - 1) as u8,
+                channels as u8,
+                table,
+                n as u8,
+                &mut *file,
+            );
+            Verdict::Accepted
+        }
+    }
+}

@@ -1,0 +1,6 @@
+pub mod Graph
+pub mod Zeros
+pub mod Circle
+pub mod Places
+pub mod Values
+pub mod Same

@@ -1,0 +1,4 @@
+pub mod Graph
+pub mod Zeros
+pub mod Places
+pub mod Values

@@ -1,0 +1,96 @@
+use mathlib.Core.Path.{refl}
+use Rattle.reader.proofs.Facts.{headed, read-refused, is-short, is-rejected, header-few, read-done, rows-front, rows-front-long}
+use Rattle.reader.proofs.Tests.{colours-lt}
+use native.Mathlib.Omega.{arith}
+use borrow.Author.Needs.{needs}
+use Rattle.reader.proofs.read.Statement.{statement}
+use Rattle.reader.proofs.read.Tie as tie
+use Rattle.reader.proofs.read.Reads as reads
+use Rattle.reader.proofs.read.Lts as lts
+use Rattle.reader.proofs.header.Reads as header-reads
+use Rattle.reader.proofs.read_header.Reads as read-header-reads
+use Rattle.reader.proofs.read_table.Reads as read-table-reads
+use Rattle.record.proofs.put_rows.Reads as put-rows-reads
+
+returns : tie.Need-returns
+returns c = read-refused _ _ _ _ _ _ _ (is-short (c .before .before .before .before .before .args .file .now) (omega arith)) refl
+
+header-requires : tie.Need-header-requires
+header-requires c κs = search needs
+
+read-header-requires : tie.Need-read-header-requires
+read-header-requires c κs = rw (c .header .ensures) (colours-lt (c .before .before .before .before .before .before .args .file .now))
+
+enum-known-e : tie.Need-enum-known-e
+enum-known-e c = search needs
+
+enum-known-colours : tie.Need-enum-known-colours
+enum-known-colours c = search needs
+
+cast-n : tie.Need-cast-n
+cast-n c = search needs
+
+put-rows-requires : tie.Need-put-rows-requires
+put-rows-requires c κs =
+    let f = c .before .before .before .before .before .before .before .before .before .before .before .args .file .now in
+    let w = header-few f (omega arith) _ _ _ (headed f (c .before .before .before .before .before .header .ensures) (c .before .before .before .before .read-header .ensures) (c .before .before .colours .given .1)) in
+    (omega (arith, w .3), omega (arith, w .0, c .before .before .before .before .before .before .before .before .before .before .before .pre .0))
+
+mul-end : tie.Need-mul-end
+mul-end c = search needs
+
+slice-reshare-prefix-read-table : tie.Need-slice-reshare-prefix-read-table
+slice-reshare-prefix-read-table c =
+    let f = c .before .before .before .before .before .before .before .before .before .before .before .before .before .before .args .file .now in
+    let w = header-few f (omega arith) _ _ _ (headed f (c .before .before .before .before .before .before .before .before .header .ensures) (c .before .before .before .before .before .before .before .read-header .ensures) (c .before .before .before .before .before .colours .given .1)) in
+    omega (arith, w .0, c .before .before .before .before .before .before .before .before .before .before .before .before .before .before .pre .0, c .before .before .put-rows .kept .1 .1 .0)
+
+slice-aggregate-read-table : tie.Need-slice-aggregate-read-table
+slice-aggregate-read-table c = rows-front-long _ _ _ _ (c .before .before .before .put-rows .ensures)
+
+read-table-requires : tie.Need-read-table-requires
+read-table-requires c κs =
+    let f = c .before .before .before .before .before .before .before .before .before .before .before .before .before .before .before .before .before .args .file .now in
+    let w = header-few f (omega arith) _ _ _ (headed f (c .before .before .before .before .before .before .before .before .before .before .before .header .ensures) (c .before .before .before .before .before .before .before .before .before .before .read-header .ensures) (c .before .before .before .before .before .before .before .before .colours .given .1)) in
+    (record { few = w .0; fewColours = w .1; fewChannels = w .2; long = w .3; is = rows-front _ _ _ _ (c .before .before .before .before .before .put-rows .ensures) }, record { zeros = c .before .before .before .before .before .before .before .before .before .before .before .before .before .before .before .before .before .pre .1 .zeros; room = c .before .before .before .before .before .before .before .before .before .before .before .before .before .before .before .before .before .pre .1 .room })
+
+returns-2 : tie.Need-returns-2
+returns-2 c =
+    let f = c .before .before .before .before .before .before .before .before .before .before .args .file .now in
+    read-refused _ _ _ _ _ _ _ (is-rejected f (omega arith) _ (headed f (c .before .before .before .before .header .ensures) (c .before .before .before .read-header .ensures) (c .before .e .given .1))) refl
+
+same-length : tie.Need-same-length
+same-length c = search needs
+
+same-length-2 : tie.Need-same-length-2
+same-length-2 c = search needs
+
+same-length-3 : tie.Need-same-length-3
+same-length-3 c = search needs
+
+returns-3 : tie.Need-returns-3
+returns-3 c =
+    let f = c .before .before .before .before .before .before .before .before .before .before .before .before .before .before .before .before .before .before .before .before .before .before .args .file .now in
+    let rows = c .before .before .before .before .before .before .before .before .before .before .put-rows .ensures in
+    read-done f (omega arith) _ _ _ (headed f (c .before .before .before .before .before .before .before .before .before .before .before .before .before .before .before .before .header .ensures) (c .before .before .before .before .before .before .before .before .before .before .before .before .before .before .before .read-header .ensures) (c .before .before .before .before .before .before .before .before .before .before .before .before .before .colours .given .1)) _ _ _ _ _ _ rows (rows-front _ _ _ _ rows) (c .before .before .before .before .read-table .ensures)
+
+pub read-spec : {M : Type 1} → statement M
+read-spec =
+    tie.close
+    (tie.spec
+    returns
+    header-requires
+    read-header-requires
+    enum-known-e
+    enum-known-colours
+    cast-n
+    put-rows-requires
+    mul-end
+    slice-reshare-prefix-read-table
+    slice-aggregate-read-table
+    read-table-requires
+    returns-2
+    same-length
+    same-length-2
+    same-length-3
+    returns-3)

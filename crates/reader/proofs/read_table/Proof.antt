@@ -1,0 +1,55 @@
+use mathlib.Core.Path.{refl}
+use Rattle.reader.proofs.Facts.{table-field, table-wired, table-kinds, rows-long, rows-room}
+use native.Mathlib.Omega.{arith}
+use borrow.Author.Needs.{needs}
+use Rattle.reader.proofs.read_table.Statement.{statement}
+use Rattle.reader.proofs.read_table.Tie as tie
+use Rattle.reader.proofs.read_table.Reads as reads
+use Rattle.reader.proofs.read_table.Lts as lts
+use Rattle.reader.proofs.first_bad_record.Reads as first-bad-record-reads
+use Rattle.reader.proofs.read_as.Reads as read-as-reads
+use Rattle.reader.proofs.wired_verdict.Reads as wired-verdict-reads
+use Rattle.wiring.proofs.wire.Reads as wire-reads
+
+first-bad-record-requires : tie.Need-first-bad-record-requires
+first-bad-record-requires c κs =
+    let p = c .before .before .before .before .pre .0 in
+    (omega (arith, p .long), rows-room _ _ _ _ _ p, p .fewColours)
+
+returns : tie.Need-returns
+returns c = table-field _ _ _ _ _ _ (c .before .first-bad-record .ensures) _ _ _ (omega arith) refl
+
+wire-requires : tie.Need-wire-requires
+wire-requires c κs =
+    let s = c .before .before .before .before .before .before .before .before in
+    let p = s .pre .0 in
+    let k = table-kinds (s .args .colours) (s .args .channels) (s .args .components) (s .args .file .now) (s .args .table .now) (p .few) (rows-long _ _ _ _ _ p) (rw (← c .before .before .before .first-bad-record .ensures) (omega arith)) in
+    (k, p .fewChannels, s .pre .1 .zeros, s .pre .1 .room)
+
+wired-verdict-requires : tie.Need-wired-verdict-requires
+wired-verdict-requires c κs = search needs
+
+read-as-requires : tie.Need-read-as-requires
+read-as-requires c κs = search needs
+
+same-length : tie.Need-same-length
+same-length c = search needs
+
+same-length-2 : tie.Need-same-length-2
+same-length-2 c = search needs
+
+returns-2 : tie.Need-returns-2
+returns-2 c = table-wired _ _ _ _ _ _ (c .before .before .before .before .before .before .before .before .before .before .first-bad-record .ensures) _ _ _ (omega arith) _ _ (c .before .before .before .before .before .before .wire .ensures) (c .before .wired-verdict .ensures) (c .read-as .ensures)
+
+pub read-table-spec : {M : Type 1} → statement M
+read-table-spec =
+    tie.close
+    (tie.spec
+    first-bad-record-requires
+    returns
+    wire-requires
+    wired-verdict-requires
+    read-as-requires
+    same-length
+    same-length-2
+    returns-2)

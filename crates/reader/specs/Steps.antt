@@ -1,0 +1,46 @@
+-- What the steps of the code come to. It describes the code, and proofs/Facts.antt ties it to the definitions.
+use mathlib.Core.Path.{_≡_}
+use Prim.Native.Nat.{ℕ, _+_, _*_, _≤_, _<_}
+use mathlib.Core.Bool.{true}
+use mathlib.Core.List.{List}
+use lib.ListN.{length, replicate}
+use Rattle.record.specs.Table.{row, openTable}
+use Rattle.component.specs.Row.{rowOk}
+use Rattle.wiring.specs.Sound.{SoundWires}
+use Rattle.wiring.specs.declared.Wired.{Wired}
+use Rattle.wiring.specs.declared.Wired.the-variants.{Sound, Unmatched, Circular}
+use Rattle.refusals.specs.Refusals.{firstRefusal}
+use Rattle.reader.specs.File.{headerTests, recordTests, coloursIn, channelsIn, componentsIn}
+use Rattle.reader.specs.Reading.{readAs}
+use Rattle.refusals.specs.declared.Refusal.the-variants.{Channel, Circle}
+use Rattle.refusals.specs.declared.Verdict.{Verdict}
+use Rattle.refusals.specs.declared.Verdict.the-variants.{Accepted, Refused}
+use Rattle.reader.specs.declared.Reading.{Reading}
+
+abbrev pub wiredVerdict : Wired → Verdict
+wiredVerdict Sound = Accepted
+wiredVerdict (Unmatched x) = Refused (Channel x)
+wiredVerdict Circular = Refused Circle
+
+-- after the header: C, M and N, or a refusal of 2 to 5
+unfoldable pub headerRead : List ℕ → List ℕ → Reading
+headerRead h file = readAs (firstRefusal (headerTests h file)) (coloursIn h) (channelsIn h) (componentsIn h)
+
+-- after the records: refusals 6 to 8
+pub record TableRead (colours channels n : ℕ) (file table : List ℕ) (answer : Reading) (ends order : List ℕ) : Type 0 where
+  pub is : answer ≡ readAs (firstRefusal (recordTests colours channels file table n)) colours channels n
+  pub rows : firstRefusal (recordTests colours channels file table n) ≡ Accepted → (k : ℕ) → k < n → rowOk colours channels (row table k) ≡ true
+  pub wires : firstRefusal (recordTests colours channels file table n) ≡ Accepted → SoundWires table n channels ends order
+
+-- a file whose header is right, and the rows of its records
+pub record Unpacking (colours channels n : ℕ) (file table : List ℕ) : Type 0 where
+  pub few : n ≤ 128
+  pub fewColours : colours ≤ 8
+  pub fewChannels : channels ≤ 255
+  pub long : length file ≡ 4 + 13 * n
+  pub is : table ≡ openTable file n
+
+-- the room for the ends and the order, as it is lent
+pub record Cleared (ends order : List ℕ) : Type 0 where
+  pub zeros : ends ≡ replicate 513 0
+  pub room : 510 ≤ length order

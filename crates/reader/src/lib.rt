@@ -1,0 +1,228 @@
+// Reader of the packed fabric: refusals 1 to 8, the open table, the ends of the channels and the order of the signals.
+ghost use mathlib.Core.Path.{_≡_};
+ghost use Prim.Native.Nat.{_+_, _*_, _/_, _%_, _≤_, _<_};
+ghost use lib.ListN.{length, getD};
+ghost use Rattle.digits.specs.Packed.{fields};
+ghost use Rattle.reader.specs.File.{headerWidths, headerFields, badRow, badRecord, firstBadRecord};
+ghost use Rattle.reader.specs.Reading.{readAs, verdictOf, coloursOf, channelsOf, reading};
+ghost use Rattle.reader.specs.Accepted.{ReadOf};
+ghost use Rattle.reader.specs.Steps.{headerRead, wiredVerdict, TableRead, Unpacking, Cleared};
+use refusals::Refusal;
+use refusals::Verdict;
+
+// What reading a file comes to.
+pub enum Reading {
+    Fabric {
+        colours: u8,
+        channels: u8,
+        components: u8,
+    },
+    Rejected(Refusal),
+}
+
+pub fn verdict_of(r: Reading) -> Verdict
+    ensures { λ v. ⌜ v ≡ verdictOf r ⌝ }
+{
+    match r {
+        Reading::Fabric {
+            colours: _,
+            channels: _,
+            components: _,
+        } => Verdict::Accepted,
+        Reading::Rejected(e) => Verdict::Refused(e),
+    }
+}
+
+pub fn colours_of(r: Reading) -> u8
+    ensures { λ n. ⌜ n ≡ coloursOf r ⌝ }
+{
+    match r {
+        Reading::Fabric {
+            colours,
+            channels: _,
+            components: _,
+        } => colours,
+        Reading::Rejected(_) => 0,
+    }
+}
+
+pub fn channels_of(r: Reading) -> u8
+    ensures { λ n. ⌜ n ≡ channelsOf r ⌝ }
+{
+    match r {
+        Reading::Fabric {
+            colours: _,
+            channels,
+            components: _,
+        } => channels,
+        Reading::Rejected(_) => 0,
+    }
+}
+
+pub fn read_as(v: Verdict, colours: u8, channels: u8, components: u8) -> Reading
+    ensures { λ r. ⌜ r ≡ readAs v colours channels components ⌝ }
+{
+    match v {
+        Verdict::Accepted => Reading::Fabric {
+            colours,
+            channels,
+            components,
+        },
+        Verdict::Refused(e) => Reading::Rejected(e),
+    }
+}
+
+pub fn wired_verdict(w: wiring::Wired) -> Verdict
+    ensures { λ r. ⌜ r ≡ wiredVerdict w ⌝ }
+{
+    match w {
+        wiring::Wired::Sound => Verdict::Accepted,
+        wiring::Wired::Unmatched(x) => Verdict::Refused(Refusal::Channel(x)),
+        wiring::Wired::Circular => Verdict::Refused(Refusal::Circle),
+    }
+}
+
+fn cut_header(x: u64) -> [u8; 6]
+    ensures { λ r. ⌜ r ≡ fields headerWidths x ⌝ }
+{
+    [
+        (x / 268435456 % 16) as u8,
+        (x / 33554432 % 8) as u8,
+        (x / 16777216 % 2) as u8,
+        (x / 65536 % 256) as u8,
+        (x / 256 % 256) as u8,
+        (x / 1 % 256) as u8,
+    ]
+}
+
+fn header(file: &[u8]) -> [u8; 6]
+    requires { ⌜ 4 ≤ length (now file) ⌝ }
+    ensures { λ r. ⌜ r ≡ headerFields (now (file .entry)) ⌝ }
+{
+    cut_header(digits::word(file, 0, 4))
+}
+
+// The refusals 2 to 5 of a file with these header fields.
+fn read_header(h: [u8; 6], file: &[u8]) -> Reading
+    requires { ⌜ getD h 1 0 < 8 ⌝ }
+    ensures { λ r. ⌜ r ≡ headerRead h (now (file .entry)) ⌝ }
+{
+    let colours = h[1] + 1;
+    let components = h[3];
+    let channels = h[4];
+    let n = components as usize;
+    if (h[0] != 1) | (h[2] != 0) {
+        return Reading::Rejected(Refusal::Edition);
+    }
+    if (components == 0) | (128 < components) | (channels == 0) {
+        return Reading::Rejected(Refusal::Range);
+    }
+    if file.len() != 4 + 13 * n {
+        return Reading::Rejected(Refusal::Length);
+    }
+    if digits::byte_sum(file) != 0 {
+        return Reading::Rejected(Refusal::Sum);
+    }
+    Reading::Fabric {
+        colours,
+        channels,
+        components,
+    }
+}
+
+// Whether row k of a table is wrong.
+pub fn bad_row(table: &[u8], k: usize, colours: u8, channels: u8) -> bool
+    requires { ⌜ (24 * k + 24 ≤ length (now table)) × (colours ≤ 8) ⌝ }
+    ensures { λ r. ⌜ r ≡ badRow colours channels (now (table .entry)) k ⌝ }
+{
+    !component::row_ok(record::row_at(table, k), colours, channels)
+}
+
+// Whether record k of a file or its row is wrong.
+fn bad_record(file: &[u8], table: &[u8], k: usize, colours: u8, channels: u8) -> bool
+    requires { ⌜ (4 + 13 * k + 13 ≤ length (now file)) × (24 * k + 24 ≤ length (now table)) × (colours ≤ 8) ⌝ }
+    ensures { λ r. ⌜ r ≡ badRecord colours channels (now (file .entry)) (now (table .entry)) k ⌝ }
+{
+    let pad = record::padded(file, 4 + 13 * k);
+    let bad = bad_row(table, k, colours, channels);
+    pad | bad
+}
+
+// The lowest of n records that is wrong, or n.
+fn first_bad_record(file: &[u8], table: &[u8], n: usize, colours: u8, channels: u8) -> usize
+    requires { ⌜ (4 + 13 * n ≤ length (now file)) × (24 * n ≤ length (now table)) × (colours ≤ 8) ⌝ }
+    ensures { λ r. ⌜ r ≡ firstBadRecord colours channels (now (file .entry)) (now (table .entry)) n ⌝ }
+{
+    let mut k: usize = 0;
+    while k < n {
+        if bad_record(file, table, k, colours, channels) {
+            return k;
+        }
+        k += 1;
+    }
+    n
+}
+
+// The refusals 6 to 8 of a file with these rows.
+fn read_table(
+    file: &[u8],
+    table: &[u8],
+    colours: u8,
+    channels: u8,
+    components: u8,
+    ends: &mut [u16],
+    order: &mut [u16],
+) -> Reading
+    requires { ⌜ Unpacking colours channels components (now file) (now table) × Cleared (now ends) (now order) ⌝ }
+    ensures { λ r. ⌜ TableRead colours channels components (now (file .entry)) (now (table .entry)) r (now (ends .exit)) (now (order .exit)) ⌝ }
+{
+    let n = components as usize;
+    let bad = first_bad_record(file, table, n, colours, channels);
+    if bad < n {
+        return Reading::Rejected(Refusal::Field(bad));
+    }
+    let found = wiring::wire(table, n, channels as usize, &mut *ends, &mut *order);
+    read_as(wired_verdict(found), colours, channels, components)
+}
+
+// Reads a file: the refusals 1 to 8. Of an accepted one it lays down the rows, 1 + the end that gives each signal, and an order of
+// the signals.
+pub fn read(file: &[u8], table: &mut [u8], ends: &mut [u16], order: &mut [u16]) -> Reading
+    requires { ⌜ (3072 ≤ length (now table)) × Cleared (now ends) (now order) ⌝ }
+    ensures { λ r. ⌜ ReadOf (now (file .entry)) (now (table .entry)) (now (table .exit)) r (now (ends .exit)) (now (order .exit)) ⌝ }
+{
+    if file.len() < 4 {
+        return Reading::Rejected(Refusal::Short);
+    }
+    match read_header(header(file), file) {
+        Reading::Rejected(e) => Reading::Rejected(e),
+        Reading::Fabric {
+            colours,
+            channels,
+            components,
+        } => {
+            let n = components as usize;
+            record::put_rows(file, n, &mut *table);
+            let end = 24 * n;
+            read_table(
+                file,
+                &table[..end],
+                colours,
+                channels,
+                components,
+                &mut *ends,
+                &mut *order,
+            )
+        }
+    }
+}
+
+// The refusals 1 to 8 of a file.
+pub fn reading_of(file: &[u8]) -> Reading
+    ensures { λ r. ⌜ r ≡ reading (now (file .entry)) ⌝ }
+{
+    let mut rows = [0u8; 3072];
+    let mut ends = [0u16; 513];
+    let mut order = [0u16; 510];
+    read(file, &mut rows, &mut ends, &mut order)
+}

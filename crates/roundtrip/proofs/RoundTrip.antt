@@ -1,0 +1,86 @@
+-- The theorems of specs/RoundTrip.antt. Assumes nothing.
+use mathlib.Core.Path.{_≡_, refl, ap, ap₂, sym, _∙_}
+use Prim.Native.Nat.{ℕ, _+_, _*_, _/_, _≤_}
+use native.Mathlib.Omega.{arith}
+use mathlib.Core.Bool.{false}
+use mathlib.Core.List.{List, _++_}
+use lib.ListN.{length, drop}
+use borrow.Author.Tests.{ne-eqb, le-ltb}
+use Rattle.record.specs.Table.{openTable}
+use Rattle.record.proofs.Table.{length-rows}
+use Rattle.fabric.specs.PackedFile.{packedFile}
+use Rattle.reader.specs.Reading.{readAs, verdictOf, reading}
+use Rattle.fabric.specs.Calls.{unpacked, packed}
+use Rattle.fabric.specs.Steps.{roomFor}
+use Rattle.roundtrip.specs.RoundTrip.{Bytes, fileOf, RoundTripFile, RoundTripTable, WrittenAccepted, OneFile, OneTable}
+use Rattle.refusals.specs.declared.Verdict.{Verdict}
+use Rattle.refusals.specs.declared.Verdict.the-variants.{Accepted, Refused}
+use Rattle.reader.specs.declared.Reading.the-variants.{Fabric}
+use Rattle.fabric.proofs.Unpacked.{unpacked-fabric, table-of}
+use Rattle.fabric.proofs.Writing.{outside, Inside, is-judged, PackFacts, pack-accepted, file-of}
+use Rattle.roundtrip.proofs.Inverse.{reading-back, table-back, file-back, file-long, inside-back, verdict-back}
+
+-- ---- an accepted table
+module _ (C M : ℕ) (t : List ℕ) (byte : Bytes t) (given : ℕ) (a : packed C M t given ≡ Accepted) where
+  facts : PackFacts C M t given
+  facts = pack-accepted C M t given a
+
+  long : length t ≡ 24 * (length t / 24)
+  long = omega (arith, facts .even)
+
+  read-back : reading (fileOf C M t) ≡ Fabric C M (length t / 24)
+  read-back = reading-back C M (length t / 24) t (facts .inside) long byte (facts .verdict)
+
+  open-back : openTable (fileOf C M t) (length t / 24) ≡ t
+  open-back = table-back C M (length t / 24) t (facts .inside) long byte (facts .verdict)
+
+  unpacked-back : (space : ℕ) → unpacked (fileOf C M t) space ≡ readAs (roomFor Accepted space (24 * (length t / 24))) C M (length t / 24)
+  unpacked-back space = sym (unpacked-fabric (fileOf C M t) read-back space _ refl)
+
+verdict-read : (v : Verdict) (a b c : ℕ) → verdictOf (readAs v a b c) ≡ v
+verdict-read Accepted a b c = refl
+verdict-read (Refused r) a b c = refl
+
+pub writtenAccepted : WrittenAccepted
+writtenAccepted C M t byte given a space = ap verdictOf (unpacked-back C M t byte given a space) ∙ verdict-read (roomFor Accepted space (24 * (length t / 24))) C M (length t / 24)
+
+pub roundTripTable : RoundTripTable
+roundTripTable C M t byte given a space h =
+    let n : ℕ = length t / 24 in
+    let l = long C M t byte given a in
+    let e : unpacked (fileOf C M t) (length space) ≡ Fabric C M n = unpacked-back C M t byte given a (length space) ∙ rw (le-ltb (length space) (24 * n) (omega arith)) in
+    (e, sym (table-of (fileOf C M t) space _ (sym e)) ∙ ap₂ (λ (x : List ℕ) (k : ℕ). x ++ drop k space) (open-back C M t byte given a) (sym l))
+
+pub oneTable : OneTable
+oneTable C M C′ M′ t u bt bu g g′ a b e =
+    let f = ap reading e in
+    let r : Fabric C M (length t / 24) ≡ Fabric C′ M′ (length u / 24) = sym (read-back C M t bt g a) ∙ f ∙ read-back C′ M′ u bu g′ b in
+    let n : length t / 24 ≡ length u / 24 = cc in
+    (cc, cc, sym (open-back C M t bt g a) ∙ ap₂ openTable e n ∙ open-back C′ M′ u bu g′ b)
+
+-- ---- an accepted file
+not-outside : (C M N : ℕ) → Inside C M N → outside C M N ≡ false
+not-outside C M N i =
+    rw (
+      ne-eqb N 0 (λ q. absurd (omega (arith, i .someRows))),
+      le-ltb 128 N (i .fewRows),
+      ne-eqb M 0 (λ q. absurd (omega (arith, i .someChannels))),
+      le-ltb 255 M (i .fewChannels),
+      ne-eqb C 0 (λ q. absurd (omega (arith, i .someColours))),
+      le-ltb 8 C (i .fewColours),
+    )
+
+pub roundTripFile : RoundTripFile
+roundTripFile f byte C M N e space h =
+    let t : List ℕ = openTable f N in
+    let n : length t / 24 ≡ N = omega (arith, length-rows f N) in
+    let l = file-long f C M N byte e in
+    let room : 4 + 13 * (length t / 24) ≤ length space = omega arith in
+    let p : Accepted ≡ packed C M t (length space) =
+    is-judged C M t (length space) (omega (arith, length-rows f N)) (rw n (not-outside C M N (inside-back f C M N byte e))) Accepted Accepted (rw n (sym (verdict-back f C M N byte e)))
+    (rw (le-ltb (length space) (4 + 13 * (length t / 24)) room)) in
+    let q : 4 + 13 * (length t / 24) ≡ length f = omega arith in
+    (sym p, sym (file-of C M t space Accepted p) ∙ ap₂ (λ (x : List ℕ) (k : ℕ). x ++ drop k space) (ap (packedFile C M t) n ∙ file-back f C M N byte e) q)
+
+pub oneFile : OneFile
+oneFile f g bf bg C M N e d s = sym (file-back f C M N bf e) ∙ ap (λ (t : List ℕ). packedFile C M t N) s ∙ file-back g C M N bg d

@@ -1,0 +1,1 @@
+// The theorems on files and tables; there is no code here.

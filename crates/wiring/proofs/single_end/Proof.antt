@@ -1,0 +1,11 @@
+use borrow.Author.Needs.{needs}
+use Rattle.wiring.proofs.single_end.Statement.{statement}
+use Rattle.wiring.proofs.single_end.Tie as tie
+use Rattle.wiring.proofs.single_end.Reads as reads
+use Rattle.wiring.proofs.single_end.Lts as lts
+
+returns : tie.Need-returns
+returns c = search needs
+
+pub single-end-spec : {M : Type 1} → statement M
+single-end-spec = tie.close (tie.spec returns)

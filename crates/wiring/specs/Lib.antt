@@ -1,0 +1,5 @@
+pub mod Ends
+pub mod Signals
+pub mod Sound
+pub mod Ports
+pub mod Steps
