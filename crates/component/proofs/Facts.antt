@@ -1,4 +1,4 @@
--- What a row that is right tells. Assumes nothing.
+-- The facts of a row that is right, and that it fits its widths. Assumes nothing.
 use mathlib.Core.Path.{_≡_, refl, ap, sym, subst, _∙_}
 use mathlib.Core.Bool.{Bool, true, false, not, _&&_, _||_, false≢true, or-false}
 use mathlib.Core.List.{List, [], _∷_}
@@ -22,6 +22,7 @@ and-true : (a b : Bool) → (a && b) ≡ true → (a ≡ true) × (b ≡ true)
 and-true true b e = (refl, e)
 and-true false b e = absurd (false≢true e)
 
+-- used or not, the number is below a limit m that is not 0 and at least n
 below-lt : (used : Bool) (x n m : ℕ) → fitsBelow used x n ≡ true → n ≤ m → 0 < m → x < m
 below-lt true x n m e l p = omega (arith, ltb-true x n (below-limit true x n ∙ e))
 below-lt false x n m e l p = omega (arith, eqb-true x 0 e)
@@ -90,6 +91,7 @@ mask-low false some n bits e = rw (eqb-true bits 0 e) (omega arith)
 mask-some : (n bits : ℕ) → maskOk true true n bits ≡ true → 0 < bits
 mask-some n bits e = ltb-true 0 bits (and-true (eqb (bits * 2 ^ n % 256) 0) (ltb 0 bits) (rw or-false at e) .1)
 
+-- a queue's capacity and filling
 record Filled (capacity filling : ℕ) : Type 0 where
   low : 0 < capacity
   high : capacity ≤ 63
@@ -109,15 +111,14 @@ filling-lt false c x e =
     let s = and-true (eqb c 0) (eqb x 0) e in
     (omega (arith, eqb-true c 0 (s .0)), omega (arith, eqb-true x 0 (s .1)))
 
--- ---- what the row gives
+-- ---- the facts of a row that is right
 pub row-facts : (colours channels : ℕ) (row : List ℕ) → 0 < colours → colours ≤ 8 → 0 < channels → getD row 20 0 < 256 → rowOk colours channels row ≡ true → RowFacts colours channels row
 unfolding isSource usesMask isQueue
 row-facts n m row p l q byte e =
     let r = row-parts n m row e in
     let low = mask-low (usesMask (kind row)) (isSource (kind row)) n (mask row) (r .masks) in
     let masks : (d : ℕ) → d < 8 → masked row d ≡ true → d < n = λ d b o. bit-below (mask row) n d l low b (eqb-true (mask row / 2 ^ (7 - d) % 2) 1 o) in
-    let queues : kind row ≡ queue → Filled (capacity row) (filling row) =
-    λ k. filled (capacity row) (filling row) (subst (λ (k : Kind). fillingOk (isQueue k) (capacity row) (filling row) ≡ true) k (r .fillings)) in
+    let queues : kind row ≡ queue → Filled (capacity row) (filling row) = λ k. filled (capacity row) (filling row) (subst (λ (k : Kind). fillingOk (isQueue k) (capacity row) (filling row) ≡ true) k (r .fillings)) in
     record {
       kinds = kind-le r;
       ports = λ p. below-lt (isUsed (portUse (kind row) p)) (port row p) m m (r .ports p) (omega arith) q;

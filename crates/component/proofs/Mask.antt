@@ -22,12 +22,13 @@ low-zero bits n j h e =
     let t = rw (shl-shr bits n) at (mod-pow-add (bits * 2 ^ n) j n) in
     zero-shl (bits % 2 ^ j) n (omega arith)
 
--- each of them is 0
+-- where the lowest bits are 0, bit k among them is 0
 bit-zero : (bits i k : ℕ) → bits % 2 ^ (i + 1 + k) ≡ 0 → bits / 2 ^ k % 2 ≡ 0
 bit-zero bits i k e =
     let s : bits / 2 ^ k % 2 ^ (i + 1) ≡ 0 = sym (field bits (i + 1) k) ∙ ap (λ x. x / 2 ^ k) e ∙ zero-shr k in
     sym (mod-mod-pow (bits / 2 ^ k) i 1) ∙ ap (λ x. x % 2) s
 
+-- a bit that is set is of a colour below n
 pub bit-below : (bits n d : ℕ) → n ≤ 8 → bits * 2 ^ n % 256 ≡ 0 → d < 8 → bits / 2 ^ (7 - d) % 2 ≡ 1 → d < n
 bit-below bits n d l e h one = go (ltb d n) refl
   where
@@ -44,7 +45,7 @@ not-one x e =
     let h = eqb-false (x % 2) 1 e in
     omega arith
 
--- a byte above 0 has a bit
+-- a byte above 0 has a bit that is set
 pub some-bit : (bits : ℕ) → bits < 256 → 0 < bits → (d : ℕ) × (d < 8) × (eqb (bits / 2 ^ (7 - d) % 2) 1 ≡ true)
 some-bit bits l p = go (ltb (least bit 8) 8) refl
   where

@@ -46,7 +46,7 @@ numbered = each-kind Numbered
     (record { a = refl; b = refl; c = refl; first = refl; second = refl; mask = refl; src = refl; que = refl })
 
 -- `rowOk` with the kind as a number, as the code computes it
-abbrev numberedOk : ℕ → ℕ → List ℕ → Bool
+abbrev pub numberedOk : ℕ → ℕ → List ℕ → Bool
 numberedOk colours channels f =
     let kind : ℕ = getD f 0 0 in
     leb kind 7

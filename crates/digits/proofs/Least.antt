@@ -1,6 +1,6 @@
 -- Laws of the least number that passes a test. Assumes nothing.
 use mathlib.Core.Path.{_≡_, refl, ap}
-use mathlib.Core.Bool.{Bool, true, false, cond}
+use mathlib.Core.Bool.{Bool, true, false, cond, _||_}
 use Prim.Native.Nat.{ℕ, zero, suc, _≤_, _<_, zero-le}
 use native.Mathlib.Omega.{arith}
 use Rattle.digits.specs.Least.{least}
@@ -53,3 +53,15 @@ pub least-same : (p q : ℕ → Bool) (n : ℕ) → ((j : ℕ) → j < n → p j
 unfolding least
 least-same p q zero h = refl
 least-same p q (suc n) h = rw (h zero (omega arith), least-same (λ k. p (suc k)) (λ k. q (suc k)) n (λ j b. h (suc j) (omega arith)))
+
+-- the least that passes one of two tests is the least that passes the second below the least that passes the first
+pub least-or : (p q : ℕ → Bool) (n : ℕ) → least (λ k. p k || q k) n ≡ least q (least p n)
+unfolding least
+least-or p q zero = refl
+least-or p q (suc n) = go (p zero) (q zero) refl (least-or (λ k. p (suc k)) (λ k. q (suc k)) n)
+  where
+    go : (a b : Bool) → q zero ≡ b → least (λ k. p (suc k) || q (suc k)) n ≡ least (λ k. q (suc k)) (least (λ k. p (suc k)) n)
+        → cond (a || b) zero (suc (least (λ k. p (suc k) || q (suc k)) n)) ≡ least q (cond a zero (suc (least (λ k. p (suc k)) n)))
+    go true b e again = refl
+    go false true e again = rw e
+    go false false e again = rw e (ap suc again)

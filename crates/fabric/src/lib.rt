@@ -3,7 +3,6 @@ ghost use mathlib.Core.Path.{_≡_};
 ghost use Prim.Native.Nat.{_+_, _*_, _/_, _%_, _≤_, _<_};
 ghost use mathlib.Core.List.{_++_};
 ghost use lib.ListN.{length, take, drop};
-ghost use Rattle.reader.specs.File.{firstBadRow};
 ghost use Rattle.fabric.specs.PackedFile.{headerBytes, packedFile};
 ghost use Rattle.fabric.specs.Calls.{unpacked, unpackedTable, packed, packedInto, recordStart, recordLength};
 ghost use Rattle.fabric.specs.Steps.{roomFor, withRoom, tableVerdict};
@@ -139,27 +138,12 @@ fn put_file(c: u8, channels: u8, table: &[u8], components: u8, out: &mut [u8])
     );
 }
 
-// The lowest of n rows that is wrong, or n.
-fn first_bad_row(table: &[u8], n: usize, colours: u8, channels: u8) -> usize
-    requires { ⌜ (24 * n ≤ length (now table)) × (colours ≤ 8) ⌝ }
-    ensures { λ r. ⌜ r ≡ firstBadRow colours channels (now (table .entry)) n ⌝ }
-{
-    let mut k: usize = 0;
-    while k < n {
-        if reader::bad_row(table, k, colours, channels) {
-            return k;
-        }
-        k += 1;
-    }
-    n
-}
-
 // The refusals 6 to 8 of a table of n rows.
 fn table_verdict(table: &[u8], n: usize, colours: u8, channels: u8) -> Verdict
     requires { ⌜ (length (now table) ≡ 24 * n) × (n ≤ 128) × (colours ≤ 8) ⌝ }
     ensures { λ r. ⌜ r ≡ tableVerdict colours channels (now (table .entry)) n ⌝ }
 {
-    let bad = first_bad_row(table, n, colours, channels);
+    let bad = reader::first_bad_row(table, n, colours, channels);
     if bad < n {
         return Verdict::Refused(Refusal::Field(bad));
     }

@@ -36,8 +36,12 @@ channelsIn h = getD h 4 0
 abbrev pub badRow : ℕ → ℕ → List ℕ → ℕ → Bool
 badRow colours channels table k = not (rowOk colours channels (row table k))
 
+-- the six 0 bits of a record
+abbrev pub badPad : List ℕ → ℕ → Bool
+badPad file k = not (eqb (recordPad file (recordAt k)) 0)
+
 abbrev pub badRecord : ℕ → ℕ → List ℕ → List ℕ → ℕ → Bool
-badRecord colours channels file table k = not (eqb (recordPad file (recordAt k)) 0) || badRow colours channels table k
+badRecord colours channels file table k = badPad file k || badRow colours channels table k
 
 unfoldable pub firstBadRow : ℕ → ℕ → List ℕ → ℕ → ℕ
 firstBadRow colours channels table n = least (badRow colours channels table) n

@@ -2,8 +2,9 @@
 ghost use mathlib.Core.Path.{_≡_};
 ghost use Prim.Native.Nat.{_+_, _*_, _/_, _%_, _≤_, _<_};
 ghost use lib.ListN.{length, getD};
+ghost use Rattle.digits.specs.Least.{least};
 ghost use Rattle.digits.specs.Packed.{fields};
-ghost use Rattle.reader.specs.File.{headerWidths, headerFields, badRow, badRecord, firstBadRecord};
+ghost use Rattle.reader.specs.File.{badPad, firstBadRow, headerWidths, headerFields, badRow, firstBadRecord};
 ghost use Rattle.reader.specs.Reading.{readAs, verdictOf, coloursOf, channelsOf, reading};
 ghost use Rattle.reader.specs.Accepted.{ReadOf};
 ghost use Rattle.reader.specs.Steps.{headerRead, wiredVerdict, TableRead, Unpacking, Cleared};
@@ -131,36 +132,49 @@ fn read_header(h: [u8; 6], file: &[u8]) -> Reading
 }
 
 // Whether row k of a table is wrong.
-pub fn bad_row(table: &[u8], k: usize, colours: u8, channels: u8) -> bool
+fn bad_row(table: &[u8], k: usize, colours: u8, channels: u8) -> bool
     requires { ⌜ (24 * k + 24 ≤ length (now table)) × (colours ≤ 8) ⌝ }
     ensures { λ r. ⌜ r ≡ badRow colours channels (now (table .entry)) k ⌝ }
 {
     !component::row_ok(record::row_at(table, k), colours, channels)
 }
 
-// Whether record k of a file or its row is wrong.
-fn bad_record(file: &[u8], table: &[u8], k: usize, colours: u8, channels: u8) -> bool
-    requires { ⌜ (4 + 13 * k + 13 ≤ length (now file)) × (24 * k + 24 ≤ length (now table)) × (colours ≤ 8) ⌝ }
-    ensures { λ r. ⌜ r ≡ badRecord colours channels (now (file .entry)) (now (table .entry)) k ⌝ }
-{
-    let pad = record::padded(file, 4 + 13 * k);
-    let bad = bad_row(table, k, colours, channels);
-    pad | bad
-}
-
-// The lowest of n records that is wrong, or n.
-fn first_bad_record(file: &[u8], table: &[u8], n: usize, colours: u8, channels: u8) -> usize
-    requires { ⌜ (4 + 13 * n ≤ length (now file)) × (24 * n ≤ length (now table)) × (colours ≤ 8) ⌝ }
-    ensures { λ r. ⌜ r ≡ firstBadRecord colours channels (now (file .entry)) (now (table .entry)) n ⌝ }
+// The lowest of n rows that is wrong, or n.
+pub fn first_bad_row(table: &[u8], n: usize, colours: u8, channels: u8) -> usize
+    requires { ⌜ (24 * n ≤ length (now table)) × (colours ≤ 8) ⌝ }
+    ensures { λ r. ⌜ r ≡ firstBadRow colours channels (now (table .entry)) n ⌝ }
 {
     let mut k: usize = 0;
     while k < n {
-        if bad_record(file, table, k, colours, channels) {
+        if bad_row(table, k, colours, channels) {
             return k;
         }
         k += 1;
     }
     n
+}
+
+// The lowest of n records whose last six bits are not 0, or n.
+fn first_bad_pad(file: &[u8], n: usize) -> usize
+    requires { ⌜ 4 + 13 * n ≤ length (now file) ⌝ }
+    ensures { λ r. ⌜ r ≡ least (badPad (now (file .entry))) n ⌝ }
+{
+    let mut k: usize = 0;
+    while k < n {
+        if record::padded(file, 4 + 13 * k) {
+            return k;
+        }
+        k += 1;
+    }
+    n
+}
+
+// The lowest of n records that is wrong, or n: the rows below the first wrong pad are looked at.
+fn first_bad_record(file: &[u8], table: &[u8], n: usize, colours: u8, channels: u8) -> usize
+    requires { ⌜ (4 + 13 * n ≤ length (now file)) × (24 * n ≤ length (now table)) × (colours ≤ 8) ⌝ }
+    ensures { λ r. ⌜ r ≡ firstBadRecord colours channels (now (file .entry)) (now (table .entry)) n ⌝ }
+{
+    first_bad_row(table, first_bad_pad(file, n), colours, channels)
 }
 
 // The refusals 6 to 8 of a file with these rows.

@@ -6,7 +6,7 @@ use Rattle.fabric.proofs.table_verdict.Statement.{statement}
 use Rattle.fabric.proofs.table_verdict.Tie as tie
 use Rattle.fabric.proofs.table_verdict.Reads as reads
 use Rattle.fabric.proofs.table_verdict.Lts as lts
-use Rattle.fabric.proofs.first_bad_row.Reads as first-bad-row-reads
+use Rattle.reader.proofs.first_bad_row.Reads as first-bad-row-reads
 use Rattle.reader.proofs.wired_verdict.Reads as wired-verdict-reads
 use Rattle.wiring.proofs.wire.Reads as wire-reads
 

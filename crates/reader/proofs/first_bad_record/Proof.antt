@@ -1,65 +1,31 @@
-use mathlib.Core.Path.{_≡_, sym, _∙_}
-use mathlib.Core.Bool.{false}
-use Prim.Native.Nat.{ℕ, _-_, _≤_, _<_}
-use Rattle.digits.proofs.Least.{least-at, least-none}
-use borrow.Author.Count.{below-more}
-use Rattle.reader.specs.File.{badRecord, firstBadRecord}
-use borrow.Author.Needs.{needs}
+use mathlib.Core.Path.{sym, ap, _∙_}
+use Rattle.digits.specs.Least.{least}
+use Rattle.digits.proofs.Least.{least-le, least-or}
+use Rattle.reader.specs.File.{badPad, badRow, firstBadRow, firstBadRecord}
 use native.Mathlib.Omega.{arith}
+use borrow.Author.Needs.{needs}
 use Rattle.reader.proofs.first_bad_record.Statement.{statement}
 use Rattle.reader.proofs.first_bad_record.Tie as tie
 use Rattle.reader.proofs.first_bad_record.Reads as reads
 use Rattle.reader.proofs.first_bad_record.Lts as lts
-use Rattle.reader.proofs.bad_record.Reads as bad-record-reads
+use Rattle.reader.proofs.first_bad_pad.Reads as first-bad-pad-reads
+use Rattle.reader.proofs.first_bad_row.Reads as first-bad-row-reads
 
-abbrev Inv-loop : tie.InvT-loop
-Inv-loop file table n colours channels k₀ k = (k ≤ n) × ((j : ℕ) → j < k → badRecord colours channels file table j ≡ false)
+first-bad-pad-requires : tie.Need-first-bad-pad-requires
+first-bad-pad-requires c κs = search needs
 
-abbrev μ-loop : tie.MeasureT-loop
-μ-loop file table n colours channels k₀ k = n - k
+first-bad-row-requires : tie.Need-first-bad-row-requires
+first-bad-row-requires c κs =
+    let s = c .before .before .before in
+    (omega (arith, s .pre .1, c .first-bad-pad .ensures, least-le (badPad (s .args .file .now)) (s .args .n)), s .pre .2)
 
-loop-holds : tie.Need-loop-holds Inv-loop μ-loop
-loop-holds c = (omega arith, λ j h. absurd (omega arith))
-
-bad-record-requires : tie.Need-bad-record-requires Inv-loop μ-loop
-bad-record-requires c κs = search needs
-
-returns : tie.Need-returns Inv-loop μ-loop
-unfolding firstBadRecord
+returns : tie.Need-returns
+unfolding firstBadRow firstBadRecord
 returns c =
-    let a = c .before .before .before .before .before .before .args in
-    let g = c .before .before .before .loop in
-    sym (least-at (badRecord (a .colours) (a .channels) (a .file .now) (a .table .now)) (a .n) (g .k) (c .before .before .loop-test .taken) (g .inv .1) (sym (c .before .bad-record .ensures) ∙ c .if1 .taken))
-
-add-k : tie.Need-add-k Inv-loop μ-loop
-add-k c = search needs
-
-loop-less : tie.Need-loop-less Inv-loop μ-loop
-loop-less c = search needs
-
-loop-again : tie.Need-loop-again Inv-loop μ-loop
-loop-again c =
-    let a = c .before .before .before .before .before .before .args in
-    let g = c .before .before .before .loop in
-    (omega arith, below-more (λ (j : ℕ). badRecord (a .colours) (a .channels) (a .file .now) (a .table .now) j ≡ false) (g .k) (g .inv .1) (sym (c .before .bad-record .ensures) ∙ c .if1 .left))
-
-returns-2 : tie.Need-returns-2 Inv-loop μ-loop
-unfolding firstBadRecord
-returns-2 c =
     let a = c .before .before .before .before .args in
-    let g = c .before .loop in
-    sym (least-none (badRecord (a .colours) (a .channels) (a .file .now) (a .table .now)) (a .n) (λ j h. g .inv .1 j (omega arith)))
+    c .first-bad-row .ensures
+    ∙ ap (least (badRow (a .colours) (a .channels) (a .table .now))) (c .before .first-bad-pad .ensures)
+    ∙ sym (least-or (badPad (a .file .now)) (badRow (a .colours) (a .channels) (a .table .now)) (a .n))
 
 pub first-bad-record-spec : {M : Type 1} → statement M
-first-bad-record-spec =
-    tie.close
-    (tie.spec
-    Inv-loop
-    μ-loop
-    loop-holds
-    bad-record-requires
-    returns
-    add-k
-    loop-less
-    loop-again
-    returns-2)
+first-bad-record-spec = tie.close (tie.spec first-bad-pad-requires first-bad-row-requires returns)

@@ -3,14 +3,14 @@ use mathlib.Core.Bool.{false}
 use Prim.Native.Nat.{ℕ, _-_, _≤_, _<_}
 use Rattle.digits.proofs.Least.{least-at, least-none}
 use borrow.Author.Count.{below-more}
 use Rattle.reader.specs.File.{badRow, firstBadRow}
 use borrow.Author.Needs.{needs}
 use native.Mathlib.Omega.{arith}
-use Rattle.fabric.proofs.first_bad_row.Statement.{statement}
-use Rattle.fabric.proofs.first_bad_row.Tie as tie
-use Rattle.fabric.proofs.first_bad_row.Reads as reads
-use Rattle.fabric.proofs.first_bad_row.Lts as lts
+use Rattle.reader.proofs.first_bad_row.Statement.{statement}
+use Rattle.reader.proofs.first_bad_row.Tie as tie
+use Rattle.reader.proofs.first_bad_row.Reads as reads
+use Rattle.reader.proofs.first_bad_row.Lts as lts
 use Rattle.reader.proofs.bad_row.Reads as bad-row-reads
 
 abbrev Inv-loop : tie.InvT-loop
 Inv-loop table n colours channels k₀ k = (k ≤ n) × ((j : ℕ) → j < k → badRow colours channels table j ≡ false)
@@ -29,7 +29,7 @@ unfolding firstBadRow
 returns c =
     let a = c .before .before .before .before .before .args in
     let g = c .before .before .before .loop in
-    sym (least-at (badRow (a .colours) (a .channels) (a .table .now)) (a .n) (g .k) (c .before .before .loop-test .taken) (g .inv .1) (sym (c .before .bad-row .ensures) ∙ c .if1 .taken))
+    sym (least-at (badRow (a .colours) (a .channels) (a .table .now)) (a .n) (g .k) (omega arith) (g .inv .1) (sym (c .before .bad-row .ensures) ∙ c .if1 .taken))
 
 add-k : tie.Need-add-k Inv-loop μ-loop
 add-k c = search needs
