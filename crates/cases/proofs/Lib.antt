@@ -1,1 +1,3 @@
 pub mod CreditLoop
+pub mod EightKinds
+pub mod Hypotheses

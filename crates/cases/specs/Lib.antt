@@ -1,1 +1,2 @@
 pub mod CreditLoop
+pub mod EightKinds

@@ -1,0 +1,5 @@
+pub mod Counts
+pub mod Moves
+pub mod Balanced
+pub mod Sums
+pub mod Holds

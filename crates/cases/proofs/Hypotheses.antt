@@ -1,0 +1,73 @@
+-- The hypothesis records of inner functions are met by the credit loop and by a fabric with all eight kinds, from the state at start, under choices
+-- by which sources emit, sinks take and merges pick B. Assumes nothing.
+use mathlib.Core.Path.{_≡_, refl}
+use mathlib.Core.Bool.{true}
+use mathlib.Core.List.{List, [], _∷_, _++_}
+use Prim.Native.Nat.{ℕ, zero, suc, _*_, _≤_, _<_}
+use native.Mathlib.Omega.{arith}
+use lib.ListN.{length}
+use Rattle.digits.specs.Least.{least}
+use Rattle.record.specs.Table.{openTable, records}
+use Rattle.record.specs.Record.{recordRow, recordBytes}
+use Rattle.component.specs.Kind.{kindOf}
+use Rattle.component.specs.Netlist.{Netlist, netlist}
+use Rattle.reader.specs.Accepted.{AcceptedFabric, ReadOf}
+use Rattle.reader.specs.declared.Reading.{Reading}
+use Rattle.fabric.specs.PackedFile.{headerBytes, packedFile}
+use Rattle.signals.specs.Signals.{moves}
+use Rattle.signals.specs.Channels.{Ready}
+use Rattle.state.specs.Choices.{goodChoice, choiceAt, badChoice, Allowed}
+use Rattle.state.specs.Start.{started}
+use Rattle.state.specs.Step.{Steps}
+use Rattle.state.specs.Updatable.{Updatable}
+use Rattle.state.proofs.Bounds.{steps-ready}
+use Rattle.state.proofs.Choices.{no-bad-choice}
+use Rattle.state.proofs.Start.{good-start}
+use Rattle.state.proofs.Updatable.{updatable}
+use Rattle.start.specs.Startable.{Startable}
+use Rattle.start.proofs.Startable.{startable}
+use Rattle.cases.specs.CreditLoop.{creditTable, creditFile}
+use Rattle.cases.specs.EightKinds.{eightTable, eightFile}
+use Rattle.cases.proofs.CreditLoop.{credit-accepted}
+use Rattle.cases.proofs.EightKinds.{eight-reads}
+
+-- what an accepted fabric gives under choices that none refuses
+module _ (f : Netlist) (ends order : List ℕ) (a : AcceptedFabric f ends order) (choices : List ℕ) (long : length choices ≡ f .components) (none : badChoice f choices ≡ length choices)
+    (state : List ℕ) (room : 64 * f .components ≤ length state) where
+  pub startable-met : Startable (f .table) (f .components) state
+  startable-met = startable f ends order a state room
+
+  pub steps-met : Steps f ends order (started f state) choices
+  steps-met = record { accepted = a; good = good-start f ends order a state room; allowed = no-bad-choice f choices long none }
+
+  pub ready-met : 2 * f .channels ≤ length order → Ready f ends order (started f state) choices
+  ready-met l = steps-ready f ends order (started f state) choices steps-met l
+
+  pub updatable-met : Updatable (f .table) (f .components) (started f state) choices (moves f (started f state) choices ++ [])
+  updatable-met = updatable f ends order (started f state) choices steps-met []
+
+-- ---- the credit loop
+abbrev creditChoices : List ℕ
+creditChoices = 1 ∷ 0 ∷ 0 ∷ 0 ∷ 1 ∷ 0 ∷ []
+
+credit-choices : badChoice (netlist 1 6 6 (openTable creditFile 6)) creditChoices ≡ 6
+unfolding badChoice choiceAt goodChoice least creditFile creditTable packedFile headerBytes records recordBytes recordRow openTable kindOf
+credit-choices = refl
+
+pub credit-steps : (before after ends order : List ℕ) (answer : Reading) → ReadOf creditFile before after answer ends order → (state : List ℕ) → 384 ≤ length state
+    → Steps (netlist 1 6 6 (openTable creditFile 6)) ends order (started (netlist 1 6 6 (openTable creditFile 6)) state) creditChoices
+credit-steps before after ends order answer r state l =
+    steps-met (netlist 1 6 6 (openTable creditFile 6)) ends order (credit-accepted before after ends order answer r) creditChoices refl credit-choices state l
+
+-- ---- all eight kinds
+abbrev eightChoices : List ℕ
+eightChoices = 2 ∷ 0 ∷ 0 ∷ 1 ∷ 0 ∷ 0 ∷ 0 ∷ 0 ∷ 1 ∷ []
+
+eight-choices : badChoice (netlist 2 10 9 (openTable eightFile 9)) eightChoices ≡ 9
+unfolding badChoice choiceAt goodChoice least eightFile eightTable packedFile headerBytes records recordBytes recordRow openTable kindOf
+eight-choices = refl
+
+pub eight-steps : (before after ends order : List ℕ) (answer : Reading) → ReadOf eightFile before after answer ends order → (state : List ℕ) → 576 ≤ length state
+    → Steps (netlist 2 10 9 (openTable eightFile 9)) ends order (started (netlist 2 10 9 (openTable eightFile 9)) state) eightChoices
+eight-steps before after ends order answer r state l =
+    steps-met (netlist 2 10 9 (openTable eightFile 9)) ends order (r .facts 2 10 9 eight-reads) eightChoices refl eight-choices state l

@@ -1,0 +1,2 @@
+pub mod Equations
+pub mod Numbers

@@ -1,0 +1,8 @@
+pub mod Bounds
+pub mod Terms
+pub mod Sums
+pub mod Lists
+pub mod Verdict
+pub mod Steps
+pub mod Exactly
+pub mod Credit

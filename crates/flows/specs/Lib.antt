@@ -1,0 +1,5 @@
+pub mod Terms
+pub mod Flows
+pub mod Verdict
+pub mod Steps
+pub mod Sums

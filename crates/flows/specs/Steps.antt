@@ -1,0 +1,27 @@
+-- What a step is to the equations. moved x d is 1 if colour d moved on channel x in the step, else 0; n q d counts d in queue q.
+use mathlib.Core.Path.{_≡_}
+use mathlib.Core.Bool.{true, cond}
+use Prim.Native.Nat.{ℕ}
+use lib.IntN.{ℤ, pos, _+ℤ_, _-ℤ_, _*ℤ_}
+use Rattle.integers.specs.Sum.{sumTo}
+use Rattle.component.specs.Kind.{isQueue}
+use Rattle.component.specs.Row.{kind}
+use Rattle.component.specs.Netlist.{Netlist, rowOf}
+use Rattle.equations.specs.Equations.{hasEquation, factor}
+
+-- by how much the step's transfers change the left side of the equation of component k and index i, but for n
+unfoldable pub flowChange : Netlist → ℕ → ℕ → (ℕ → ℕ → ℤ) → ℤ
+flowChange f k i moved = sumTo (f .channels) (λ x. sumTo (f .colours) (λ d. factor f k i x d *ℤ moved x d))
+
+-- by how much it changes n, where that stands in the equation
+unfoldable pub countChange : Netlist → ℕ → ℕ → (ℕ → ℕ → ℕ) → (ℕ → ℕ → ℕ) → ℤ
+countChange f k i n n′ = cond (isQueue (kind (rowOf f k))) (pos (n′ k i) -ℤ pos (n k i)) (pos 0)
+
+-- every equation that there is holds after the step if it did before
+pub record Holds (f : Netlist) (moved : ℕ → ℕ → ℤ) (n n′ : ℕ → ℕ → ℕ) : Type 0 where
+  pub holds : (k i : ℕ) → hasEquation f k i ≡ true → flowChange f k i moved +ℤ countChange f k i n n′ ≡ pos 0
+
+-- steps in a row: the counts after each, and what moved in it
+pub data Steps (f : Netlist) : (ℕ → ℕ → ℕ) → (ℕ → ℕ → ℕ) → Type 0 where
+  none : {n : ℕ → ℕ → ℕ} → Steps f n n
+  then : {n n′ n″ : ℕ → ℕ → ℕ} (moved : ℕ → ℕ → ℤ) → Holds f moved n n′ → Steps f n′ n″ → Steps f n n″

@@ -1,0 +1,45 @@
+use borrow.Author.Needs.{needs}
+use Rattle.component.specs.Kind.{kindOf}
+use Rattle.state.specs.Good.{goodByte}
+use Rattle.good.proofs.Cells.{first-rest}
+use Rattle.good.proofs.first_good.Statement.{statement}
+use Rattle.good.proofs.first_good.Tie as tie
+use Rattle.good.proofs.first_good.Reads as reads
+use Rattle.good.proofs.first_good.Lts as lts
+use Rattle.good.proofs.is_emitted.Reads as is-emitted-reads
+
+shared-slice-read-kind : tie.Need-shared-slice-read-kind
+shared-slice-read-kind c = search needs
+
+shared-slice-read-most : tie.Need-shared-slice-read-most
+shared-slice-read-most c = search needs
+
+is-emitted-requires : tie.Need-is-emitted-requires
+is-emitted-requires c κs = search needs
+
+returns : tie.Need-returns
+unfolding goodByte kindOf
+returns c = λ u v. rw (c .before .match .keys1) (c .is-emitted .ensures)
+
+returns-2 : tie.Need-returns-2
+unfolding goodByte kindOf
+returns-2 c = λ u v. rw (c .match .keys2)
+
+returns-3 : tie.Need-returns-3
+unfolding goodByte kindOf
+returns-3 c = λ u v. rw (c .match .keys3)
+
+returns-4 : tie.Need-returns-4
+returns-4 c = λ u v. first-rest _ _ u v _ (c .match .rest .0 .0 .1) (c .match .rest .0 .1) (c .match .rest .1)
+
+pub first-good-spec : {M : Type 1} → statement M
+first-good-spec =
+    tie.close
+    (tie.spec
+    shared-slice-read-kind
+    shared-slice-read-most
+    is-emitted-requires
+    returns
+    returns-2
+    returns-3
+    returns-4)

@@ -1,0 +1,6 @@
+pub mod Ring
+pub mod Sum
+pub mod Near
+pub mod Lines
+pub mod Tables
+pub mod Twos

@@ -1,0 +1,1 @@
+// Laws of the integers and of finite sums; there is no code here.

@@ -1,0 +1,20 @@
+use borrow.Author.Needs.{needs}
+use Rattle.rules.proofs.HeldSource.offer.Statement.{statement}
+use Rattle.rules.proofs.HeldSource.offer.Tie as tie
+use Rattle.rules.proofs.HeldSource.offer.Reads as reads
+use Rattle.rules.proofs.HeldSource.offer.Lts as lts
+
+enum-told : tie.Need-enum-told
+enum-told c = search needs
+
+enum-told-2 : tie.Need-enum-told-2
+enum-told-2 c = search needs
+
+returns : tie.Need-returns
+returns c = rw (c .enum-told .given .1)
+
+returns-2 : tie.Need-returns-2
+returns-2 c = rw (c .enum-told2 .given .1)
+
+pub offer-spec : {M : Type 1} → statement M
+offer-spec = tie.close (tie.spec enum-told enum-told-2 returns returns-2)

@@ -1,0 +1,4 @@
+pub mod Values
+pub mod Ports
+pub mod Rules
+pub mod Seen

@@ -1,0 +1,22 @@
+use Rattle.rules.specs.Rules.{rule}
+use Rattle.component.specs.Kind.{portOf}
+use borrow.Author.Needs.{needs}
+use Rattle.rules.proofs.merge_offer.Statement.{statement}
+use Rattle.rules.proofs.merge_offer.Tie as tie
+use Rattle.rules.proofs.merge_offer.Reads as reads
+use Rattle.rules.proofs.merge_offer.Lts as lts
+use Rattle.rules.proofs.picks_b.Reads as picks-b-reads
+
+picks-b-requires : tie.Need-picks-b-requires
+picks-b-requires c κs = search needs
+
+returns : tie.Need-returns
+unfolding rule portOf
+returns c = λ w s tb tc. rw (← (c .before .picks-b .ensures), c .if1 .taken)
+
+returns-2 : tie.Need-returns-2
+unfolding rule portOf
+returns-2 c = λ w s tb tc. rw (← (c .before .picks-b .ensures), c .if1 .left)
+
+pub merge-offer-spec : {M : Type 1} → statement M
+merge-offer-spec = tie.close (tie.spec picks-b-requires returns returns-2)

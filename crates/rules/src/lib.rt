@@ -1,0 +1,308 @@
+// The rules of the eight kinds.
+ghost use mathlib.Core.Path.{_≡_};
+ghost use mathlib.Core.List.{List};
+ghost use Prim.Native.Nat.{ℕ, suc, _+_, _≤_};
+ghost use lib.ListN.{length, getD};
+ghost use lib.Dec.{ltb};
+ghost use Rattle.component.specs.Kind.{fork, join, switch, merge, portOf};
+ghost use Rattle.component.specs.Row.{capacity};
+ghost use Rattle.rules.specs.Rules.{numberOf, bit, when, unless, offered, orElse, mapped, toB, picksB, component, rule};
+ghost use Rattle.rules.specs.Seen.{seen, Offers, Takes};
+
+// An offer: nothing, or a colour.
+pub enum Offer {
+    Nothing,
+    Colour(u8),
+}
+
+// The two signals of a channel.
+pub struct Channel {
+    pub offer: Offer,
+    pub take: bool,
+}
+
+// What a source holds over a step.
+pub struct HeldSource {
+    pub held: Offer,
+}
+
+impl HeldSource {
+    // The held colour if it has one, else its choice.
+    pub fn offer(self, choice: Offer) -> Offer
+        ensures { λ r. ⌜ numberOf r ≡ orElse (numberOf (self .held)) (numberOf choice) ⌝ }
+    {
+        let h = self.held;
+        match h {
+            Offer::Colour(_) => h,
+            Offer::Nothing => choice,
+        }
+    }
+
+    // It holds its colour if that was offered and not taken.
+    pub fn next(self, choice: Offer, taken: bool) -> HeldSource
+        ensures { λ r. ⌜ numberOf (r .held) ≡ unless (bit taken) (orElse (numberOf (self .held)) (numberOf choice)) ⌝ }
+    {
+        let o = self.offer(choice);
+        if taken {
+            return HeldSource {
+                held: Offer::Nothing,
+            };
+        }
+        HeldSource { held: o }
+    }
+}
+
+// What a sink holds over a step.
+pub struct HeldSink {
+    pub held: bool,
+}
+
+impl HeldSink {
+    // It takes if held or chosen.
+    pub fn take(self, chosen: bool) -> bool
+        ensures { λ r. ⌜ bit r ≡ offered (orElse (bit (self .held)) (bit chosen)) ⌝ }
+    {
+        if self.held {
+            return true;
+        }
+        chosen
+    }
+
+    // It holds if it took and nothing was offered.
+    pub fn next(self, chosen: bool, offer: Offer) -> HeldSink
+        ensures { λ r. ⌜ bit (r .held) ≡ unless (offered (numberOf offer)) (offered (orElse (bit (self .held)) (bit chosen))) ⌝ }
+    {
+        let t = self.take(chosen);
+        match offer {
+            Offer::Colour(_) => HeldSink { held: false },
+            Offer::Nothing => HeldSink { held: t },
+        }
+    }
+}
+
+// The offer that a byte of the state or of the choices says.
+pub fn offer_of_byte(n: u8) -> Offer
+    ensures { λ r. ⌜ numberOf r ≡ n ⌝ }
+{
+    if n == 0 {
+        return Offer::Nothing;
+    }
+    Offer::Colour(n - 1)
+}
+
+fn is_offered(o: Offer) -> bool
+    ensures { λ r. ⌜ bit r ≡ offered (numberOf o) ⌝ }
+{
+    match o {
+        Offer::Colour(_) => true,
+        Offer::Nothing => false,
+    }
+}
+
+fn gate(g: bool, o: Offer) -> Offer
+    ensures { λ r. ⌜ numberOf r ≡ when (bit g) (numberOf o) ⌝ }
+{
+    if g {
+        return o;
+    }
+    Offer::Nothing
+}
+
+pub fn both(p: bool, q: bool) -> bool
+    ensures { λ r. ⌜ bit r ≡ when (bit p) (bit q) ⌝ }
+{
+    if p {
+        return q;
+    }
+    false
+}
+
+// The offer with its colour mapped, by the map at place `at` of the row.
+pub fn map_from(row: &[u8], at: usize, o: Offer) -> Offer
+    requires { ⌜ (length (now row) ≡ 24) × (at ≤ 16) ⌝ }
+    ensures { λ r. ⌜ numberOf r ≡ mapped (λ d. getD (now (row .entry)) (at + d) 0) (numberOf o) ⌝ }
+{
+    match o {
+        Offer::Colour(d) => {
+            let j = at + d as usize;
+            if j < 24 {
+                return Offer::Colour(row[j]);
+            }
+            Offer::Colour(0)
+        }
+        Offer::Nothing => Offer::Nothing,
+    }
+}
+
+// The mask's answer for an offer's colour: true for B. Colour 0 is the highest bit.
+fn to_b(row: &[u8], o: Offer) -> bool
+    requires { ⌜ length (now row) ≡ 24 ⌝ }
+    ensures { λ r. ⌜ bit r ≡ toB (now (row .entry)) (numberOf o) ⌝ }
+{
+    let mask = row[20];
+    match o {
+        Offer::Colour(d) => {
+            if d < 8 {
+                let s = 7 - d;
+                return (mask >> s) % 2 == 1;
+            }
+            mask % 2 == 1
+        }
+        Offer::Nothing => false,
+    }
+}
+
+// A merge's pick: true for B.
+fn picks_b(pick: u8, a: Offer, b: Offer) -> bool
+    ensures { λ r. ⌜ bit r ≡ picksB pick (numberOf a) (numberOf b) ⌝ }
+{
+    match a {
+        Offer::Colour(_) => match b {
+            Offer::Colour(_) => pick != 0,
+            Offer::Nothing => false,
+        },
+        Offer::Nothing => true,
+    }
+}
+
+// Source: its held colour if it has one, else its choice.
+pub fn source_offer(cell: &[u8], pick: u8) -> Offer
+    requires { ⌜ length (now cell) ≡ 64 ⌝ }
+    ensures { λ r. ⌜ numberOf r ≡ orElse (getD (now (cell .entry)) 0 0) pick ⌝ }
+{
+    let n = cell[0];
+    let h = offer_of_byte(n);
+    let p = offer_of_byte(pick);
+    let s = HeldSource { held: h };
+    s.offer(p)
+}
+
+// Sink takes if held or chosen.
+pub fn sink_take(cell: &[u8], pick: u8) -> bool
+    requires { ⌜ length (now cell) ≡ 64 ⌝ }
+    ensures { λ r. ⌜ bit r ≡ offered (orElse (getD (now (cell .entry)) 0 0) pick) ⌝ }
+{
+    let n = cell[0];
+    let s = HeldSink { held: n != 0 };
+    s.take(pick != 0)
+}
+
+// Queue: offers its front colour if not empty.
+pub fn queue_offer(cell: &[u8]) -> Offer
+    requires { ⌜ length (now cell) ≡ 64 ⌝ }
+    ensures { λ r. ⌜ numberOf r ≡ when (getD (now (cell .entry)) 0 0) (suc (getD (now (cell .entry)) 1 0)) ⌝ }
+{
+    let n = cell[0];
+    if n == 0 {
+        return Offer::Nothing;
+    }
+    Offer::Colour(cell[1])
+}
+
+// Queue: takes if not full at the step's beginning.
+pub fn queue_take(row: &[u8], cell: &[u8]) -> bool
+    requires { ⌜ (length (now row) ≡ 24) × (length (now cell) ≡ 64) ⌝ }
+    ensures { λ r. ⌜ bit r ≡ bit (ltb (getD (now (cell .entry)) 0 0) (capacity (now (row .entry)))) ⌝ }
+{
+    let n = cell[0];
+    let m = row[21];
+    n < m
+}
+
+// Fork: B is offered the first map's colour if the input is offered and C takes; C likewise with the second map and B taking.
+pub fn fork_offer(row: &[u8], port: usize, a: Offer, bt: bool, ct: bool) -> Offer
+    requires { ⌜ length (now row) ≡ 24 ⌝ }
+    ensures { λ r. ⌜ ((s : List ℕ) (p ob : ℕ) → Offers fork port (component (now (row .entry)) s p) (seen (numberOf a) ob (bit bt) (bit ct)) (numberOf r)) ⌝ }
+{
+    match port {
+        1 => {
+            let m = map_from(row, 4, a);
+            gate(ct, m)
+        }
+        _ => {
+            let m = map_from(row, 12, a);
+            gate(bt, m)
+        }
+    }
+}
+
+// Join: offers the mapped colour of A if A and B are offered.
+pub fn join_offer(row: &[u8], a: Offer, b: Offer) -> Offer
+    requires { ⌜ length (now row) ≡ 24 ⌝ }
+    ensures { λ r. ⌜ ((s : List ℕ) (p tb tc : ℕ) → numberOf r ≡ rule join (portOf 2) (component (now (row .entry)) s p) (seen (numberOf a) (numberOf b) tb tc)) ⌝ }
+{
+    let g = is_offered(b);
+    let m = map_from(row, 4, a);
+    gate(g, m)
+}
+
+// Join: A is taken if the output takes and B is offered; B if the output takes and A is offered.
+pub fn join_take(port: usize, a: Offer, b: Offer, ct: bool) -> bool
+    ensures { λ r. ⌜ ((w s : List ℕ) (p tb : ℕ) → Takes join port (component w s p) (seen (numberOf a) (numberOf b) tb (bit ct)) (bit r)) ⌝ }
+{
+    match port {
+        0 => {
+            let g = is_offered(b);
+            both(g, ct)
+        }
+        _ => {
+            let g = is_offered(a);
+            both(g, ct)
+        }
+    }
+}
+
+// Switch: offers its colour to the one output the mask names, none to the other.
+pub fn switch_offer(row: &[u8], port: usize, a: Offer) -> Offer
+    requires { ⌜ length (now row) ≡ 24 ⌝ }
+    ensures { λ r. ⌜ ((s : List ℕ) (p ob tb tc : ℕ) → Offers switch port (component (now (row .entry)) s p) (seen (numberOf a) ob tb tc) (numberOf r)) ⌝ }
+{
+    let g = to_b(row, a);
+    match port {
+        1 => gate(g, a),
+        _ => gate(!g, a),
+    }
+}
+
+// Switch: its input is taken if it is offered and that output takes.
+pub fn switch_take(row: &[u8], a: Offer, bt: bool, ct: bool) -> bool
+    requires { ⌜ length (now row) ≡ 24 ⌝ }
+    ensures { λ r. ⌜ ((s : List ℕ) (p ob : ℕ) → bit r ≡ rule switch (portOf 0) (component (now (row .entry)) s p) (seen (numberOf a) ob (bit bt) (bit ct))) ⌝ }
+{
+    let o = is_offered(a);
+    let g = to_b(row, a);
+    if g {
+        return both(o, bt);
+    }
+    both(o, ct)
+}
+
+// Merge: it offers the picked colour.
+pub fn merge_offer(pick: u8, a: Offer, b: Offer) -> Offer
+    ensures { λ r. ⌜ ((w s : List ℕ) (tb tc : ℕ) → numberOf r ≡ rule merge (portOf 2) (component w s pick) (seen (numberOf a) (numberOf b) tb tc)) ⌝ }
+{
+    let g = picks_b(pick, a, b);
+    if g {
+        return b;
+    }
+    a
+}
+
+// Merge: an input is taken if picked, offered and the output takes.
+pub fn merge_take(pick: u8, port: usize, a: Offer, b: Offer, ct: bool) -> bool
+    ensures { λ r. ⌜ ((w s : List ℕ) (tb : ℕ) → Takes merge port (component w s pick) (seen (numberOf a) (numberOf b) tb (bit ct)) (bit r)) ⌝ }
+{
+    let g = picks_b(pick, a, b);
+    match port {
+        0 => {
+            let o = is_offered(a);
+            let t = both(o, ct);
+            both(!g, t)
+        }
+        _ => {
+            let o = is_offered(b);
+            let t = both(o, ct);
+            both(g, t)
+        }
+    }
+}

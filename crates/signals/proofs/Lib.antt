@@ -1,0 +1,4 @@
+pub mod Signals
+pub mod Channels
+pub mod Moves
+pub mod Parts

@@ -1,0 +1,2 @@
+pub mod Signals
+pub mod Channels

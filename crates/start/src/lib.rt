@@ -1,0 +1,67 @@
+// Start writes fillings and nothing held.
+ghost use mathlib.Core.Path.{_≡_};
+ghost use mathlib.Core.List.{List};
+ghost use Prim.Native.Nat.{ℕ, _≤_};
+ghost use lib.ListN.{length, replicate};
+ghost use Rattle.component.specs.Kind.{queue, kindOf};
+ghost use Rattle.component.specs.Row.{filling, fillColour};
+ghost use Rattle.component.specs.Netlist.{netlist};
+ghost use Rattle.state.specs.Cells.{cellWith};
+ghost use Rattle.state.specs.Start.{startCell, started};
+ghost use Rattle.start.specs.Startable.{Startable};
+use component::Size;
+
+// Nothing held.
+fn clear(cell: &mut [u8])
+    requires { ⌜ length (now cell) ≡ 64 ⌝ }
+    ensures { λ _. ⌜ now (cell .exit) ≡ replicate 64 0 ⌝ }
+{
+    let mut j: usize = 0;
+    while j < 64 {
+        cell[j] = 0;
+        j += 1;
+    }
+}
+
+// A filling of n times colour c.
+fn fill(cell: &mut [u8], n: u8, c: u8)
+    requires { ⌜ (now cell ≡ replicate 64 0) × (n ≤ 63) ⌝ }
+    ensures { λ _. ⌜ now (cell .exit) ≡ cellWith (replicate n c) ⌝ }
+{
+    let count = n as usize;
+    cell[0] = n;
+    let mut j: usize = 1;
+    while j <= count {
+        cell[j] = c;
+        j += 1;
+    }
+}
+
+// A component's bytes at start.
+fn start_cell(kind: u8, n: u8, c: u8, cell: &mut [u8])
+    requires { ⌜ (length (now cell) ≡ 64) × (kindOf kind ≡ queue → n ≤ 63) ⌝ }
+    ensures { λ _. ⌜ ((row : List ℕ) → filling row ≡ n → fillColour row ≡ c → now (cell .exit) ≡ startCell (kindOf kind) row) ⌝ }
+{
+    clear(&mut *cell);
+    if kind == 2 {
+        fill(&mut *cell, n, c);
+    }
+}
+
+// The state at start.
+pub fn write_start(table: &[u8], size: Size, state: &mut [u8])
+    requires { ⌜ Startable (now table) (size .components) (now state) ⌝ }
+    ensures { λ _. ⌜ now (state .exit) ≡ started (netlist (size .colours) (size .channels) (size .components) (now (table .entry))) (now (state .entry)) ⌝ }
+{
+    let mut k: usize = 0;
+    while k < size.components {
+        let f = 24 * k;
+        let kind = table[f];
+        let n = table[f + 22];
+        let c = table[f + 23];
+        let g = 64 * k;
+        let h = g + 64;
+        start_cell(kind, n, c, &mut state[g..h]);
+        k += 1;
+    }
+}

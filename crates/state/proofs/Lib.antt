@@ -1,0 +1,10 @@
+pub mod Good
+pub mod Choices
+pub mod Cells
+pub mod Transfers
+pub mod Bounds
+pub mod Updatable
+pub mod Step
+pub mod Start
+pub mod Turn
+pub mod Credit

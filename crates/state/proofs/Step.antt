@@ -1,0 +1,202 @@
+-- The state after a step, component by component; from a good state under allowed choices it is good. Assumes nothing.
+use mathlib.Core.Path.{_≡_, refl, sym, ap, _∙_}
+use mathlib.Core.Bool.{true, cond}
+use mathlib.Core.List.{List, [], _∷_, _++_, append-nil}
+use Prim.Native.Nat.{ℕ, zero, suc, _+_, _-_, _*_, _≤_, _<_}
+use native.Mathlib.Omega.{arith}
+use native.Mathlib.Numerals.{one-add}
+use native.Mathlib.Decide.{decLt}
+use lib.Dec.{ltb, eqb}
+use lib.ListN.{length, getD, take, drop, replicate, length-append, length-drop, List·getD-append}
+use lib.Seq.{getD-at, getD-drop, getD-take}
+use borrow.Author.Tests.{lt-ltb, le-ltb, le-leb}
+use Rattle.component.specs.Kind.{Kind, source, sink, queue, function, fork, join, switch, merge, A, B}
+use Rattle.component.specs.Netlist.{Netlist, rowOf}
+use Rattle.component.specs.Row.{kind, port, capacity}
+use Rattle.rules.specs.Rules.{unless, offered, orElse}
+use Rattle.signals.specs.Signals.{cell, componentAt, moved, moves}
+use Rattle.state.specs.Cells.{coloursOf, cellWith}
+use Rattle.state.specs.Good.{emitted, goodByte, goodCell, Good}
+use Rattle.state.specs.Step.{dropped, appended, cellNext, nextAt, stateNext, next, Steps}
+use Rattle.state.proofs.Bounds.{moved-le}
+use Rattle.state.proofs.Cells.{cells-long, cells-at, cells-same, queue-length, queue-count, cell-queue}
+use Rattle.state.proofs.Choices.{source-choice}
+use Rattle.state.proofs.Good.{all-of, cell-long, good-byte, source-held, queue-count-le, queue-colour, queue-whole}
+use Rattle.state.proofs.Transfers.{move-is}
+use Rattle.state.proofs.Updatable.{dropped-le, roomy, queue-moves}
+
+pub appended-length : (m : ℕ) (cs : List ℕ) → length (appended m cs) ≡ length cs + offered m
+appended-length zero cs = omega arith
+appended-length (suc d) cs = length-append cs (d ∷ [])
+
+held-long : (s : List ℕ) (b : ℕ) → length s ≡ 64 → length (b ∷ drop 1 s) ≡ 64
+held-long s b h = simp length-drop (omega arith)
+
+module _ (f : Netlist) (ends order state choices : List ℕ) (t : Steps f ends order state choices) where
+  -- component k after the step, from what moved at its ports
+  at-ports : (rest : List ℕ) (k : ℕ) → k < f .components → nextAt f state choices (moves f state choices ++ rest) k ≡
+      cellNext (kind (rowOf f k)) (componentAt f state choices k) (moved f state choices (port (rowOf f k) A)) (moved f state choices (port (rowOf f k) B))
+  unfolding nextAt
+  at-ports rest k h = rw (move-is f ends order (t .accepted) state choices k h rest A, move-is f ends order (t .accepted) state choices k h rest B)
+
+  pub next-is : (k : ℕ) → k < f .components → nextAt f state choices (moves f state choices) k ≡
+      cellNext (kind (rowOf f k)) (componentAt f state choices k) (moved f state choices (port (rowOf f k) A)) (moved f state choices (port (rowOf f k) B))
+  next-is k h = rw append-nil at (at-ports [] k h)
+
+  -- what stands behind the moves does not matter
+  pub next-state : (rest : List ℕ) → stateNext f state choices (moves f state choices ++ rest) ≡ next f state choices
+  unfolding next stateNext
+  next-state rest =
+      ap (λ (l : List ℕ). l ++ drop (64 * f .components) state)
+      (cells-same (nextAt f state choices (moves f state choices ++ rest)) (nextAt f state choices (moves f state choices)) (f .components) (λ k h. at-ports rest k h ∙ sym (next-is k h)))
+
+  -- a queue's colours after the step are at most 63
+  pub queue-fits : (k : ℕ) → k < f .components → kind (rowOf f k) ≡ queue →
+      length (appended (moved f state choices (port (rowOf f k) A)) (dropped (moved f state choices (port (rowOf f k) B)) (coloursOf (cell state k)))) ≤ 63
+  queue-fits k h e = rw appended-length (queue-moves f ends order state choices t k h e .room)
+
+  next-long : (k : ℕ) → k < f .components → length (nextAt f state choices (moves f state choices) k) ≡ 64
+  unfolding cellNext
+  next-long k h = rw (next-is k h) (go (kind (rowOf f k)) refl)
+    where
+      long : length (cell state k) ≡ 64
+      long = cell-long state k (f .components) (t .good .long) h
+
+      ma : ℕ
+      ma = moved f state choices (port (rowOf f k) A)
+
+      after : List ℕ
+      after = appended ma (dropped (moved f state choices (port (rowOf f k) B)) (coloursOf (cell state k)))
+
+      held : ℕ
+      held = orElse (getD (cell state k) 0 0) (getD choices k 0)
+
+      go : (d : Kind) → kind (rowOf f k) ≡ d → length (cellNext d (componentAt f state choices k) (moved f state choices (port (rowOf f k) A)) (moved f state choices (port (rowOf f k) B))) ≡ 64
+      go source e = held-long (cell state k) (unless ma held) long
+      go sink e = held-long (cell state k) (unless ma (offered held)) long
+      go queue e = queue-length (cellWith after) (cell-queue after (queue-fits k h e))
+      go function e = long
+      go fork e = long
+      go join e = long
+      go switch e = long
+      go merge e = long
+
+  pub next-cell : (k : ℕ) → k < f .components → cell (next f state choices) k ≡
+      cellNext (kind (rowOf f k)) (componentAt f state choices k) (moved f state choices (port (rowOf f k) A)) (moved f state choices (port (rowOf f k) B))
+  unfolding next stateNext
+  next-cell k h = cells-at (nextAt f state choices (moves f state choices)) (f .components) next-long (drop (64 * f .components) state) k h ∙ next-is k h
+
+  pub next-length : length (next f state choices) ≡ length state
+  unfolding next stateNext
+  next-length = rw (length-append, cells-long (nextAt f state choices (moves f state choices)) (f .components) next-long, length-drop) (omega (arith, t .good .long))
+
+-- colours below c
+pub record Below (c : ℕ) (cs : List ℕ) : Type 0 where
+  pub each : (j : ℕ) → j < length cs → getD cs j 0 < c
+
+below-dropped : (c m : ℕ) (cs : List ℕ) → Below c cs → Below c (dropped m cs)
+below-dropped c zero cs b = b
+below-dropped c (suc m) cs b = record { each = λ j l. rw getD-drop (b .each (1 + j) (omega (arith, rw length-drop at l))) }
+
+below-appended : (c m : ℕ) (cs : List ℕ) → m ≤ c → Below c cs → Below c (appended m cs)
+below-appended c zero cs h b = b
+below-appended c (suc d) cs h b = record { each = λ j l. go j l (decLt j (length cs)) }
+  where
+    go : (j : ℕ) → j < length (cs ++ (d ∷ [])) → Dec (j < length cs) → getD (cs ++ (d ∷ [])) j 0 < c
+    go j l (yes q) = rw (List·getD-append cs (d ∷ []) 0 j q) (b .each j q)
+    go j l (no q) =
+        let e : j ≡ length cs = omega (arith, rw (length-append cs (d ∷ [])) at l) in
+        rw (e, getD-at cs d [] 0 (length cs) refl) h
+
+pub zero-at : (n j : ℕ) → _≡_ {A = ℕ} (getD (replicate n 0) j 0) 0
+zero-at zero j = refl
+zero-at (suc n) zero = refl
+zero-at (suc n) (suc j) = zero-at n j
+
+past : (cs : List ℕ) (n j : ℕ) → length cs ≤ j → getD (cs ++ replicate n 0) j 0 ≡ 0
+past [] n j q = zero-at n j
+past (x ∷ cs) n zero q = absurd (omega arith)
+past (x ∷ cs) n (suc j) q = past cs n j (omega arith)
+
+-- the bytes of a queue with these colours are good
+pub queue-good : (r : List ℕ) (c : ℕ) (cs : List ℕ) → length cs ≤ capacity r → length cs ≤ 63 → Below c cs → (j : ℕ) → j < 64 →
+    goodByte queue r c (getD (cellWith cs) 0 0) j (getD (cellWith cs) j 0) ≡ true
+unfolding goodByte cellWith
+queue-good r c cs h f b zero l = le-leb (length cs) (capacity r) h
+queue-good r c cs h f b (suc j) l = go (decLt j (length cs))
+  where
+    go : Dec (j < length cs) →
+        cond (ltb j (length cs)) (ltb (getD (cs ++ replicate (63 - length cs) 0) j 0) c) (eqb (getD (cs ++ replicate (63 - length cs) 0) j 0) 0) ≡ true
+    go (yes q) = rw (lt-ltb j (length cs) q, List·getD-append cs (replicate (63 - length cs) 0) 0 j q) (lt-ltb _ _ (b .each j q))
+    go (no q) = rw (le-ltb j (length cs) (omega arith), past cs (63 - length cs) j (omega arith))
+
+unless-emitted : (r : List ℕ) (m a b : ℕ) → emitted r a ≡ true → emitted r b ≡ true → emitted r (unless m (orElse a b)) ≡ true
+unless-emitted r (suc m) a b h k = refl
+unless-emitted r zero zero b h k = k
+unless-emitted r zero (suc a) b h k = h
+
+unless-small : (m a : ℕ) → unless m (offered a) < 2
+unless-small (suc m) a = omega arith
+unless-small zero zero = omega arith
+unless-small zero (suc a) = omega arith
+
+room-for : (n c m : ℕ) → n ≤ c → (0 < m → n < c) → n + offered m ≤ c
+room-for n c zero h f = omega arith
+room-for n c (suc m) h f = omega (arith, f (omega arith))
+
+module _ (f : Netlist) (ends order state choices : List ℕ) (t : Steps f ends order state choices) (k : ℕ) (h : k < f .components) where
+  abbrev ma : ℕ
+  ma = moved f state choices (port (rowOf f k) A)
+
+  abbrev mb : ℕ
+  mb = moved f state choices (port (rowOf f k) B)
+
+  -- the colours of a queue, before and after
+  queue-below : kind (rowOf f k) ≡ queue → Below (f .colours) (coloursOf (cell state k))
+  unfolding coloursOf
+  queue-below e = record { each = λ j l. each j l }
+    where
+      count : getD (cell state k) 0 0 ≡ length (take (getD (cell state k) 0 0) (drop 1 (cell state k)))
+      count = queue-count (cell state k) (queue-whole f ends order (t .accepted) state (t .good) k h e)
+
+      each : (j : ℕ) → j < length (take (getD (cell state k) 0 0) (drop 1 (cell state k))) → getD (take (getD (cell state k) 0 0) (drop 1 (cell state k))) j 0 < f .colours
+      each j l =
+          let n : j < getD (cell state k) 0 0 = omega (arith, count) in
+          let m : j < 63 = omega (arith, n, queue-count-le f state (t .good) k h e, t .accepted .rows k h .capacities e) in
+          rw (getD-take (getD (cell state k) 0 0) (drop 1 (cell state k)) j 0 n, getD-drop 1 (cell state k) j 0, one-add) (queue-colour f state (t .good) k h e j m n)
+
+  queue-kept : kind (rowOf f k) ≡ queue → (j : ℕ) → j < 64 →
+      goodByte queue (rowOf f k) (f .colours) (getD (cellWith (appended ma (dropped mb (coloursOf (cell state k))))) 0 0) j (getD (cellWith (appended ma (dropped mb (coloursOf (cell state k))))) j 0) ≡ true
+  queue-kept e j l =
+      let cs = coloursOf (cell state k) in
+      let n = queue-count (cell state k) (queue-whole f ends order (t .accepted) state (t .good) k h e) in
+      let c = queue-count-le f state (t .good) k h e in
+      let d = dropped-le mb cs in
+      let room : length (appended ma (dropped mb cs)) ≤ capacity (rowOf f k) =
+      rw appended-length (room-for (length (dropped mb cs)) (capacity (rowOf f k)) ma (omega (arith, n, c, d)) (λ p. omega (arith, n, d, roomy f ends order state choices t k h e p))) in
+      queue-good (rowOf f k) (f .colours) (appended ma (dropped mb cs)) room (omega (arith, room, t .accepted .rows k h .capacities e))
+      (below-appended (f .colours) ma (dropped mb cs) (moved-le f ends order state choices t _ (t .accepted .rows k h .ports A)) (below-dropped (f .colours) mb cs (queue-below e))) j l
+
+  kept : (d : Kind) → kind (rowOf f k) ≡ d → (j : ℕ) → j < 64 →
+      goodByte d (rowOf f k) (f .colours) (getD (cellNext d (componentAt f state choices k) ma mb) 0 0) j (getD (cellNext d (componentAt f state choices k) ma mb) j 0) ≡ true
+  unfolding goodByte cellNext
+  kept source e zero l = unless-emitted (rowOf f k) ma (getD (cell state k) 0 0) (getD choices k 0) (source-held f state (t .good) k h e) (source-choice f choices (t .allowed) k h e)
+  kept source e (suc j) l = rw (getD-drop, one-add) (rw e at (good-byte f state (t .good) k h (suc j) l))
+  kept sink e zero l = lt-ltb _ _ (unless-small ma (orElse (getD (cell state k) 0 0) (getD choices k 0)))
+  kept sink e (suc j) l = rw (getD-drop, one-add) (rw e at (good-byte f state (t .good) k h (suc j) l))
+  kept queue e j l = queue-kept e j l
+  kept function e j l = rw e at (good-byte f state (t .good) k h j l)
+  kept fork e j l = rw e at (good-byte f state (t .good) k h j l)
+  kept join e j l = rw e at (good-byte f state (t .good) k h j l)
+  kept switch e j l = rw e at (good-byte f state (t .good) k h j l)
+  kept merge e j l = rw e at (good-byte f state (t .good) k h j l)
+
+  cell-kept : goodCell (f .colours) (rowOf f k) (cell (next f state choices) k) ≡ true
+  unfolding goodCell
+  cell-kept = rw (next-cell f ends order state choices t k h) (all-of 64 _ (kept (kind (rowOf f k)) refl))
+
+pub good-step : (f : Netlist) (ends order state choices : List ℕ) → Steps f ends order state choices → Good f (next f state choices)
+good-step f ends order state choices t = record {
+  long = rw (next-length f ends order state choices t) (t .good .long);
+  each = λ k h. cell-kept f ends order state choices t k h;
+}

@@ -1,0 +1,34 @@
+use mathlib.Core.Path.{_≡_}
+use native.Mathlib.Omega.{arith}
+use borrow.Author.Needs.{needs}
+use Rattle.state.specs.Cells.{coloursOf}
+use Rattle.state.specs.Step.{dropped}
+use Rattle.state.proofs.Cells.{colours-of-cell, cell-queue}
+use Rattle.state.proofs.queue_next.Statement.{statement}
+use Rattle.state.proofs.queue_next.Tie as tie
+use Rattle.state.proofs.queue_next.Reads as reads
+use Rattle.state.proofs.queue_next.Lts as lts
+use Rattle.state.proofs.let_in.Reads as let-in-reads
+use Rattle.state.proofs.let_out.Reads as let-out-reads
+
+let-out-requires : tie.Need-let-out-requires
+let-out-requires c κs = (c .before .before .pre .whole, c .before .before .pre .out)
+
+let-in-requires : tie.Need-let-in-requires
+let-in-requires c κs =
+    let z = c .before .before .before .before .before .before in
+    let cs = dropped (z .args .mb) (coloursOf (z .args .q .now)) in
+    rw (c .before .before .before .let-out .ensures) (cell-queue cs (omega (arith, z .pre .room)), rw colours-of-cell (z .pre .room))
+
+same-length : tie.Need-same-length
+same-length c = search needs
+
+returns : tie.Need-returns
+returns c =
+    let z = c .before .before .before .before .before .before .before .before .before in
+    let cs = dropped (z .args .mb) (coloursOf (z .args .q .now)) in
+    let e : coloursOf (c .before .before .before .before .before .before .let-out .last .0) ≡ cs = rw (c .before .before .before .before .before .before .let-out .ensures) (colours-of-cell cs) in
+    rw (← e) (c .before .before .let-in .ensures)
+
+pub queue-next-spec : {M : Type 1} → statement M
+queue-next-spec = tie.close (tie.spec let-out-requires let-in-requires same-length returns)

@@ -1,0 +1,63 @@
+use mathlib.Core.Path.{_≡_, ap, _∙_}
+use mathlib.Core.List.{_∷_}
+use Prim.Native.Nat.{ℕ, _≤_}
+use native.Mathlib.Omega.{arith}
+use lib.ListN.{getD, drop}
+use borrow.Author.Needs.{needs}
+use Rattle.rules.specs.Rules.{numberOf, unless, orElse}
+use Rattle.state.proofs.Bounds.{unless-le, orElse-le}
+use Rattle.state.proofs.Turn.{set-first, unless-flag}
+use Rattle.state.proofs.source_next.Statement.{statement}
+use Rattle.state.proofs.source_next.Tie as tie
+use Rattle.state.proofs.source_next.Reads as reads
+use Rattle.state.proofs.source_next.Lts as lts
+use Rattle.rules.proofs.HeldSource.next.Reads as next-reads
+use Rattle.state.proofs.byte_of.Reads as byte-of-reads
+use Rattle.rules.proofs.offer_of_byte.Reads as offer-of-byte-reads
+
+slice-read-b : tie.Need-slice-read-b
+slice-read-b c = search needs
+
+offer-of-byte-requires : tie.Need-offer-of-byte-requires
+offer-of-byte-requires c κs = search needs
+
+offer-of-byte-requires-2 : tie.Need-offer-of-byte-requires-2
+offer-of-byte-requires-2 c κs = search needs
+
+next-requires : tie.Need-next-requires
+next-requires c κs = search needs
+
+byte-of-requires : tie.Need-byte-of-requires
+byte-of-requires c κs =
+    let z = c .before .before .before .before .before in
+    let b = getD (z .args .q .now) 0 0 in
+    let h : b ≤ 255 = omega (arith, c .before .before .before .slice-known2 .given 0) in
+    let p : z .args .pick ≤ 255 = omega arith in
+    let o : orElse b (z .args .pick) ≤ 255 = orElse-le b (z .args .pick) 255 h p in
+    rw (c .next .ensures, c .before .before .offer-of-byte .ensures, c .before .offer-of-byte2 .ensures) (search unless-le)
+
+slice-write-q : tie.Need-slice-write-q
+slice-write-q c = search needs
+
+same-length : tie.Need-same-length
+same-length c = search needs
+
+returns : tie.Need-returns
+returns c =
+    let z = c .before .before .before .before .before .before .args in
+    let b = getD (z .q .now) 0 0 in
+    let e : numberOf (c .before .next .result .held) ≡ unless (z .ma) (orElse b (z .pick)) = cc (unless-flag (z .ma) (orElse b (z .pick))) in
+    set-first (z .q .now) (c .byte-of .result) (omega arith) ∙ ap (λ (v : ℕ). v ∷ drop 1 (z .q .now)) (c .byte-of .ensures ∙ e)
+
+pub source-next-spec : {M : Type 1} → statement M
+source-next-spec =
+    tie.close
+    (tie.spec
+    slice-read-b
+    offer-of-byte-requires
+    offer-of-byte-requires-2
+    next-requires
+    byte-of-requires
+    slice-write-q
+    same-length
+    returns)
