@@ -4,13 +4,18 @@
  * component: kind, ports A, B, C, 8 and 8 map entries, mask, capacity, filling, fill colour, each byte the number in that field
  * (in a mask byte colour 0 is the highest bit).
  *
+ * A state has 64 bytes a component: of a queue its count, then so many colours, front first; of a source 0 or 1 + the colour it holds;
+ * of a sink 0, or 1 if it holds; all other bytes 0. The choices of a step are a byte a component: of a source 0 or 1 + a colour it
+ * emits, of a sink and a merge 0 or 1, of others 0. A proposal is at most 4,096 terms of 4 bytes: component 7 bits, index 4,
+ * multiplier 21 in two's complement, most significant bit first.
+ *
  * Memory. The host lends the memory and keeps it: no call stores a pointer, allocates or frees. Memory that a call may write
  * overlaps no other memory lent to that call, and nobody else writes memory lent to a call until it ends. A refused call leaves
  * every lent byte as it was; an accepted one leaves the bytes past its result as they were. A pointer whose length is 0 is never
  * read and may be NULL. Any content and any length is allowed; each call does its own checking and ends.
  *
  * Answers. A call returns 0 or the number of its refusal. Its place and the other numbers that it hands back come from sister
- * calls, which take the same input and write nothing; all are 0 where the call is refused, but for the place of 6 and 7.
+ * calls, which take the same input and write nothing; all are 0 where the call is refused, but for the places named below.
  *
  *    1  file under 4 bytes
  *    2  edition, or the header's 0 bit, wrong
@@ -20,6 +25,14 @@
  *    6  a field is wrong                              place: the lowest such component
  *    7  a channel is not one output and one input     place: the lowest such channel
  *    8  the signals' dependences hold a circle
+ *    9  choices not N long; in run, no multiple of N
+ *   10  a choice is not allowed                       place: the lowest such offset
+ *   11  proposal no multiple of 4 bytes, or longer than 16,384
+ *   12  a term names no equation                      place: the lowest such term, counted from 0
+ *   13  a flow does not cancel                        place: 8 x + d of the lowest such flow L(x,d)
+ *   14  no queue keeps a weight other than 0
+ *   21  state shorter than 64 N
+ *   22  the state is not good                         place: the lowest such component
  *   23  the space for the result is short
  */
 #ifndef FABRIC_H
@@ -49,6 +62,46 @@ uint32_t fabric_pack(uint64_t colours, uint64_t channels, const uint8_t *table, 
 /* Sister call: the place of the refusal. Only the length of the file counts. */
 uint64_t fabric_pack_place(uint64_t colours, uint64_t channels, const uint8_t *table, size_t table_len, const uint8_t *file,
                            size_t file_len);
+
+/* Writes the state at start: 64 bytes a component, at most 8,192.
+ * Refusals in this order: 1 2 3 4 5 6 7 8 21. */
+uint32_t fabric_start(const uint8_t *fabric, size_t fabric_len, uint8_t *state, size_t state_len);
+
+/* Sister call: the place of the refusal. Only the length of the state counts. */
+uint64_t fabric_start_place(const uint8_t *fabric, size_t fabric_len, const uint8_t *state, size_t state_len);
+
+/* Takes one step: the state becomes the state after it, and the moves have a byte a channel, 0 or 1 + the colour that moved.
+ * Refusals in this order: 1 2 3 4 5 6 7 8 21 22 9 10 23. */
+uint32_t fabric_step(const uint8_t *fabric, size_t fabric_len, uint8_t *state, size_t state_len, const uint8_t *choices,
+                     size_t choices_len, uint8_t *moves, size_t moves_len);
+
+/* Sister call: the place of the refusal, from the state before the step. Only the length of the moves counts. */
+uint64_t fabric_step_place(const uint8_t *fabric, size_t fabric_len, const uint8_t *state, size_t state_len, const uint8_t *choices,
+                           size_t choices_len, const uint8_t *moves, size_t moves_len);
+
+/* Takes a step for every N choices in a row, none included, and writes only the state. All choices are looked at first: a refused
+ * run has taken no step.
+ * Refusals in this order: 1 2 3 4 5 6 7 8 21 22 9 10. */
+uint32_t fabric_run(const uint8_t *fabric, size_t fabric_len, uint8_t *state, size_t state_len, const uint8_t *choices,
+                    size_t choices_len);
+
+/* Sister call: the place of the refusal, from the state before the run. */
+uint64_t fabric_run_place(const uint8_t *fabric, size_t fabric_len, const uint8_t *state, size_t state_len, const uint8_t *choices,
+                          size_t choices_len);
+
+/* Checks a proposal. If it is accepted, the sum of weight times n(q,d) over all queues q and colours d, n(q,d) being how many of colour d
+ * are in q, is K after every list of start, step and run calls that begins with an accepted start. Weights are signed
+ * 64-bit numbers of 8 bytes, lowest first, 8 of them a component: entry 8 q + d is the weight of n(q,d), other entries 0.
+ * They take 64 bytes a component, at most 8,192.
+ * Refusals in this order: 1 2 3 4 5 6 7 8 11 12 13 14 23. */
+uint32_t fabric_check(const uint8_t *fabric, size_t fabric_len, const uint8_t *proposal, size_t proposal_len, uint8_t *weights,
+                      size_t weights_len);
+
+/* Sister calls: the place of the refusal; K. Only the length of the weights counts. */
+uint64_t fabric_check_place(const uint8_t *fabric, size_t fabric_len, const uint8_t *proposal, size_t proposal_len,
+                            const uint8_t *weights, size_t weights_len);
+int64_t fabric_check_constant(const uint8_t *fabric, size_t fabric_len, const uint8_t *proposal, size_t proposal_len,
+                              const uint8_t *weights, size_t weights_len);
 
 #ifdef __cplusplus
 }

@@ -99,6 +99,11 @@ impl Component {
         &self.ports[first..first + self.kind.output_count()]
     }
 
+    /// Whether a source emits the colour, or a switch sends it to B.
+    pub fn mask_names(&self, colour: usize) -> bool {
+        0x80 >> colour & u32::from(self.mask) != 0
+    }
+
     /// Whether every field is as its kind, the colours and the channels allow.
     pub fn is_good(&self, colours: usize, channels: usize) -> bool {
         self.ports_are_good(channels)

@@ -1,26 +1,42 @@
 //! The second program of the panel fabric checker: its document in plain Rust.
 //!
-//! The calls on files are `unpack` and `pack`. Every call answers with a `Result`;
-//! a `Refusal` knows its number and its place.
+//! The calls on files are `unpack` and `pack`, those on a state `start`, `step` and `run`, and
+//! `check` judges a proposed sum. Every call answers with a `Result`; a `Refusal` knows its number
+//! and its place.
 
 pub mod channel_ends;
+pub mod check;
+pub mod choices;
 pub mod circle;
 pub mod component;
+pub mod equations;
 pub mod fabric;
 pub mod file_calls;
+pub mod listing;
 pub mod open_table;
 pub mod packed;
 pub mod refusal;
 pub mod signals;
+pub mod state;
+pub mod state_calls;
+pub mod terms;
+pub mod values;
 
+pub mod null_space;
+pub mod panels;
 pub mod random;
 pub mod random_fabric;
+pub mod random_proposal;
+pub mod random_state;
 pub mod samples;
 
 #[cfg(test)]
 mod tests;
 
+pub use check::check;
 pub use component::{Component, Kind};
 pub use fabric::Fabric;
 pub use file_calls::{pack, unpack, Unpacked};
+pub use listing::listing;
 pub use refusal::Refusal;
+pub use state_calls::{run, start, step};

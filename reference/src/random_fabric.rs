@@ -1,6 +1,6 @@
 //! Random fabrics whose fields and channel ends are good, with or without circles.
 
-use crate::circle::closing_channels;
+use crate::circle::walk;
 use crate::component::{Component, Kind};
 use crate::fabric::{Fabric, MOST_COMPONENTS};
 use crate::random::Random;
@@ -33,7 +33,7 @@ fn without_circles(random: &mut Random, size: usize) -> Wiring {
     let mut first = random.between(size.div_ceil(3), size);
     loop {
         let mut wiring = Wiring::new(random, first);
-        let mut closing = closing_channels(&wiring.components);
+        let mut closing = walk(&wiring.components).closing;
         closing.sort_unstable();
         closing.dedup();
         if wiring.components.len() + closing.len() <= MOST_COMPONENTS {

@@ -10,6 +10,14 @@ pub enum Refusal {
     Field { component: usize },
     ChannelEnds { channel: usize },
     Circle,
+    ChoiceCount,
+    Choice { offset: usize },
+    ProposalLength,
+    NoEquation { term: usize },
+    FlowLeft { flow: usize },
+    NoWeight,
+    StateShort,
+    State { component: usize },
     ResultSpace,
 }
 
@@ -24,17 +32,29 @@ impl Refusal {
             Refusal::Field { .. } => 6,
             Refusal::ChannelEnds { .. } => 7,
             Refusal::Circle => 8,
+            Refusal::ChoiceCount => 9,
+            Refusal::Choice { .. } => 10,
+            Refusal::ProposalLength => 11,
+            Refusal::NoEquation { .. } => 12,
+            Refusal::FlowLeft { .. } => 13,
+            Refusal::NoWeight => 14,
+            Refusal::StateShort => 21,
+            Refusal::State { .. } => 22,
             Refusal::ResultSpace => 23,
         }
     }
 
     /// Where the fault lies, 0 for a refusal that names no place.
     pub fn place(self) -> u64 {
-        match self {
-            Refusal::Field { component } => component as u64,
-            Refusal::ChannelEnds { channel } => channel as u64,
+        let place = match self {
+            Refusal::Field { component } | Refusal::State { component } => component,
+            Refusal::ChannelEnds { channel } => channel,
+            Refusal::Choice { offset } => offset,
+            Refusal::NoEquation { term } => term,
+            Refusal::FlowLeft { flow } => flow,
             _ => 0,
-        }
+        };
+        place as u64
     }
 }
 

@@ -4,6 +4,7 @@ use crate::component::{Component, Kind};
 use crate::fabric::Fabric;
 use crate::open_table::{write_table, ROW};
 use crate::packed::{file_length, write_file};
+use crate::terms::Term;
 
 impl Fabric {
     /// The packed file, whether or not the fabric would be accepted.
@@ -42,18 +43,37 @@ pub fn queue(a: u8, b: u8, capacity: u8, filling: u8) -> Component {
 }
 
 pub fn credit_loop() -> Fabric {
-    let components = vec![
-        source(0),
-        Component::new(Kind::Join, [0, 1, 2]),
-        queue(2, 3, 2, 0),
-        Component::new(Kind::Fork, [3, 4, 5]),
-        sink(4),
-        queue(5, 1, 2, 2),
-    ];
+    credit_loops(1)
+}
+
+/// The terms of the credit loop's sum, in the document's order.
+pub fn credit_terms() -> Vec<Term> {
+    [(2, 0), (5, 0), (1, 0), (1, 8), (3, 8)]
+        .map(|(component, index)| Term {
+            component,
+            index,
+            multiplier: 1,
+        })
+        .to_vec()
+}
+
+/// As many credit loops as asked for, side by side.
+pub fn credit_loops(count: usize) -> Fabric {
+    let one = |x: u8| {
+        [
+            source(x),
+            Component::new(Kind::Join, [x, x + 1, x + 2]),
+            queue(x + 2, x + 3, 2, 0),
+            Component::new(Kind::Fork, [x + 3, x + 4, x + 5]),
+            sink(x + 4),
+            queue(x + 5, x + 1, 2, 2),
+        ]
+    };
+    let channels = 6 * count;
     Fabric {
         colours: 1,
-        channels: 6,
-        components,
+        channels,
+        components: (0..channels as u8).step_by(6).flat_map(one).collect(),
     }
 }
 
@@ -96,6 +116,33 @@ pub fn function_row(count: usize) -> Fabric {
     Fabric {
         colours: 1,
         channels: count - 1,
+        components,
+    }
+}
+
+/// A source of two colours, switches into merges in a row and a sink; 63 such pairs make 128
+/// components and 190 channels.
+pub fn switch_row(pairs: usize) -> Fabric {
+    let one = |x: u8| {
+        let switch = Component {
+            mask: 0x80,
+            ..Component::new(Kind::Switch, [x, x + 1, x + 2])
+        };
+        [switch, Component::new(Kind::Merge, [x + 1, x + 2, x + 3])]
+    };
+    let last = 3 * pairs as u8;
+    let emits_both = Component {
+        mask: 0xC0,
+        ..source(0)
+    };
+    let components = [emits_both]
+        .into_iter()
+        .chain((0..last).step_by(3).flat_map(one))
+        .chain([sink(last)])
+        .collect();
+    Fabric {
+        colours: 2,
+        channels: 3 * pairs + 1,
         components,
     }
 }

@@ -1,10 +1,8 @@
 -- The hypothesis records of inner functions are met by the credit loop and by a fabric with all eight kinds, from the state at start, under choices
 -- by which sources emit, sinks take and merges pick B. Assumes nothing.
 use mathlib.Core.Path.{_≡_, refl}
-use mathlib.Core.Bool.{true}
 use mathlib.Core.List.{List, [], _∷_, _++_}
-use Prim.Native.Nat.{ℕ, zero, suc, _*_, _≤_, _<_}
-use native.Mathlib.Omega.{arith}
+use Prim.Native.Nat.{ℕ, _*_, _≤_}
 use lib.ListN.{length}
 use Rattle.digits.specs.Least.{least}
 use Rattle.record.specs.Table.{openTable, records}
@@ -14,11 +12,11 @@ use Rattle.component.specs.Netlist.{Netlist, netlist}
 use Rattle.reader.specs.Accepted.{AcceptedFabric, ReadOf}
 use Rattle.reader.specs.declared.Reading.{Reading}
 use Rattle.fabric.specs.PackedFile.{headerBytes, packedFile}
-use Rattle.signals.specs.Signals.{moves}
+use Rattle.signals.specs.Signals.{moved, moves}
 use Rattle.signals.specs.Channels.{Ready}
-use Rattle.state.specs.Choices.{goodChoice, choiceAt, badChoice, Allowed}
+use Rattle.state.specs.Choices.{goodChoice, choiceAt, badChoice}
 use Rattle.state.specs.Start.{started}
-use Rattle.state.specs.Step.{Steps}
+use Rattle.state.specs.Step.{next, Steps}
 use Rattle.state.specs.Updatable.{Updatable}
 use Rattle.state.proofs.Bounds.{steps-ready}
 use Rattle.state.proofs.Choices.{no-bad-choice}
@@ -26,6 +24,12 @@ use Rattle.state.proofs.Start.{good-start}
 use Rattle.state.proofs.Updatable.{updatable}
 use Rattle.start.specs.Startable.{Startable}
 use Rattle.start.proofs.Startable.{startable}
+use Rattle.flows.specs.Steps.{Holds}
+use Rattle.flows.specs.Verdict.{ReadFabric}
+use Rattle.balance.specs.Balance.{transfer}
+use Rattle.balance.specs.Counts.{counts}
+use Rattle.balance.proofs.Holds.{holds}
+use Rattle.checker.proofs.Checking.{read-fabric}
 use Rattle.cases.specs.CreditLoop.{creditTable, creditFile}
 use Rattle.cases.specs.EightKinds.{eightTable, eightFile}
 use Rattle.cases.proofs.CreditLoop.{credit-accepted}
@@ -45,6 +49,12 @@ module _ (f : Netlist) (ends order : List ℕ) (a : AcceptedFabric f ends order)
 
   pub updatable-met : Updatable (f .table) (f .components) (started f state) choices (moves f (started f state) choices ++ [])
   updatable-met = updatable f ends order (started f state) choices steps-met []
+
+  pub read-met : ReadFabric f
+  read-met = read-fabric a
+
+  pub holds-met : Holds f (transfer (moved f (started f state) choices)) (counts (started f state)) (counts (next f (started f state) choices))
+  holds-met = holds f ends order (started f state) choices steps-met
 
 -- ---- the credit loop
 abbrev creditChoices : List ℕ

@@ -1,3 +1,4 @@
 pub mod CreditLoop
+pub mod Starred
 pub mod EightKinds
 pub mod Hypotheses

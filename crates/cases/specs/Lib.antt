@@ -1,2 +1,3 @@
 pub mod CreditLoop
+pub mod Starred
 pub mod EightKinds

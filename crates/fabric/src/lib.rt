@@ -11,7 +11,7 @@ use refusals::Refusal;
 use refusals::Verdict;
 
 // The verdict with so much space for what needs so much.
-fn room_for(v: Verdict, space: usize, need: usize) -> Verdict
+pub fn room_for(v: Verdict, space: usize, need: usize) -> Verdict
     ensures { λ r. ⌜ r ≡ roomFor v space need ⌝ }
 {
     match v {

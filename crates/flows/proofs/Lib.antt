@@ -5,4 +5,3 @@ pub mod Lists
 pub mod Verdict
 pub mod Steps
 pub mod Exactly
-pub mod Credit

@@ -371,7 +371,7 @@ pub struct Judgement {
     pub constant: i64,
 }
 
-fn refused(r: Refusal) -> Judgement
+pub fn refused(r: Refusal) -> Judgement
     ensures { λ j. ⌜ (j .verdict ≡ Refused r) × (j .constant ≡ pos 0) ⌝ }
 {
     Judgement {

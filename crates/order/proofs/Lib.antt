@@ -4,3 +4,4 @@ pub mod Circle
 pub mod Places
 pub mod Values
 pub mod Same
+pub mod Exists

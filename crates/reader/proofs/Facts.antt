@@ -120,7 +120,7 @@ header-facts h file e =
     positive x f = let n : x ≡ 0 → ⊥ = λ z. true≢false (sym (eq-eqb x 0 z) ∙ f) in omega (arith, n)
 
 -- ---- the rows
-mask-byte : (file : List ℕ) (n k : ℕ) → k < n → getD (row (openTable file n) k) 20 0 < 256
+pub mask-byte : (file : List ℕ) (n k : ℕ) → k < n → getD (row (openTable file n) k) 20 0 < 256
 unfolding recordRow
 mask-byte file n k h = rw (row-open file n k h) (mod-lt _ (pow-pos 8))
 

@@ -1,3 +1,4 @@
 pub mod Tests
 pub mod Facts
 pub mod Accepted
+pub mod Exists

@@ -7,4 +7,3 @@ pub mod Updatable
 pub mod Step
 pub mod Start
 pub mod Turn
-pub mod Credit

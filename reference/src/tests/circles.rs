@@ -3,7 +3,7 @@
 use super::{fabric_answer, function};
 use crate::component::{Component, Kind};
 use crate::fabric::Fabric;
-use crate::samples::{fork_into_join, function_row, queue, sink, source};
+use crate::samples::{fork_into_join, function_row, queue, sink, source, switch_row};
 
 const CIRCLE: (u32, u64) = (8, 0);
 const ACCEPTED: (u32, u64) = (0, 0);
@@ -98,6 +98,7 @@ fn switch_into_one_merge() {
         sink(3),
     ];
     assert_eq!(of_components(4, &components), ACCEPTED);
+    assert_eq!(fabric_answer(&switch_row(63)), ACCEPTED);
 }
 
 #[test]

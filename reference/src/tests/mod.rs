@@ -1,20 +1,35 @@
-//! The document's cases for the calls on files, and some around them.
+//! The document's cases, and some around them.
 
+mod choices;
 mod circles;
+mod credit_loop;
 mod each_dependence;
+mod equations;
+mod kinds;
 mod layout;
+mod listing;
 mod order;
+mod order_of_check;
+mod order_of_step;
+mod panels;
 mod places;
+mod proposals;
 mod ranges;
 mod round_trips;
+mod runs;
+mod solver;
 mod space;
+mod states;
+mod traps;
 
 use crate::component::{Component, Kind};
 use crate::fabric::Fabric;
 use crate::packed::file_length;
 use crate::refusal::number_and_place;
 use crate::samples::{sink, source};
-use crate::{pack, unpack};
+use crate::state::COMPONENT_STATE;
+use crate::terms::{write_proposal, Term};
+use crate::{check, pack, start, step, unpack};
 
 const ROOM: usize = 130 * 24;
 
@@ -62,4 +77,54 @@ fn packed(fabric: &Fabric) -> Vec<u8> {
 
 fn function(a: u8, b: u8) -> Component {
     Component::new(Kind::Function, [a, b, 0])
+}
+
+/// The state that start writes.
+fn started(fabric: &Fabric) -> Vec<u8> {
+    let mut state = vec![0xA5; COMPONENT_STATE * fabric.components.len()];
+    assert_eq!(start(&fabric.to_file(), &mut state), Ok(()));
+    state
+}
+
+/// Makes an accepted step and gives the moves.
+fn moves(fabric: &Fabric, state: &mut [u8], choices: &[u8]) -> Vec<u8> {
+    let mut moves = vec![0xA5; fabric.channels];
+    assert_eq!(step(&fabric.to_file(), state, choices, &mut moves), Ok(()));
+    moves
+}
+
+/// Byte 0 of each component's state.
+fn first_bytes(state: &[u8]) -> Vec<u8> {
+    state.iter().step_by(COMPONENT_STATE).copied().collect()
+}
+
+fn check_answer(fabric: &Fabric, terms: &[Term]) -> (u32, u64) {
+    let mut weights = vec![0; 64 * fabric.components.len()];
+    number_and_place(&check(
+        &fabric.to_file(),
+        &write_proposal(terms),
+        &mut weights,
+    ))
+}
+
+fn term(component: usize, index: usize, multiplier: i64) -> Term {
+    Term {
+        component,
+        index,
+        multiplier,
+    }
+}
+
+/// Two sources into a merge, and a sink.
+fn merged() -> Fabric {
+    Fabric {
+        colours: 1,
+        channels: 3,
+        components: vec![
+            source(0),
+            source(1),
+            Component::new(Kind::Merge, [0, 1, 2]),
+            sink(2),
+        ],
+    }
 }

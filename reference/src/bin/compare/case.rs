@@ -1,53 +1,122 @@
-//! One case: a call, what it is given and how its memory lies.
+//! One case: calls in a row on the same fabric and state, and how their memory lies.
 
 use std::fmt;
 
 use crate::difference::hex;
 use crate::lent_memory::Guard;
 
-#[derive(Clone, Copy, Debug)]
+#[derive(Clone, Copy, PartialEq, Eq, Debug)]
 pub enum Call {
     Unpack,
     Pack { colours: u64, channels: u64 },
+    Start,
+    Step,
+    Run,
+    Check,
 }
 
-#[derive(Clone, Copy, Debug)]
-pub struct Guards {
-    pub input: Guard,
-    pub result: Guard,
+/// What a part of the memory holds before a call, and where its guard page lies.
+#[derive(Clone, Debug)]
+pub struct Lent {
+    pub bytes: Vec<u8>,
+    pub guard: Guard,
+}
+
+impl Lent {
+    pub fn new(bytes: Vec<u8>) -> Lent {
+        Lent {
+            bytes,
+            guard: Guard::BehindOrNull,
+        }
+    }
+
+    pub fn nothing() -> Lent {
+        Lent::new(Vec::new())
+    }
+}
+
+#[derive(Clone)]
+pub struct LentCall {
+    pub call: Call,
+    /// The choices or the proposal.
+    pub given: Lent,
+    /// The memory for a table, a file, moves or weights.
+    pub result: Lent,
+    pub expected: Expected,
+}
+
+impl LentCall {
+    pub fn plain(call: Call, given: &[u8], space: usize, expected: Expected) -> LentCall {
+        LentCall {
+            call,
+            given: Lent::new(given.to_vec()),
+            result: Lent::new(vec![0xA5; space]),
+            expected,
+        }
+    }
+}
+
+/// What the documents themselves say of a call.
+#[derive(Clone)]
+pub enum Expected {
+    Nothing,
+    Number(u32),
+    Refused {
+        number: u32,
+        place: u64,
+    },
+    /// Accepted, with this result.
+    Result(Vec<u8>),
+    /// Accepted, with weights and a constant that the listing program prints so.
+    Listing(String),
 }
 
 #[derive(Clone)]
 pub struct Case {
-    pub call: Call,
-    pub input: Vec<u8>,
-    /// What the result's memory holds before the call.
-    pub result: Vec<u8>,
-    pub guards: Guards,
-    /// Whether an accepted result goes through the other call and must come back.
+    /// A fabric's file, or the table to pack.
+    pub fabric: Lent,
+    pub state: Lent,
+    /// Each call gets fabric and state as the one before left them.
+    pub calls: Vec<LentCall>,
+    /// Whether an accepted unpack or pack goes through the other call and must come back.
     pub round_trip: bool,
-    /// The number, where the document itself gives it.
-    pub number: Option<u32>,
 }
 
 impl fmt::Display for Case {
     fn fmt(&self, out: &mut fmt::Formatter) -> fmt::Result {
-        writeln!(
-            out,
-            "{:?}, round trip: {}, {:?}",
-            self.call, self.round_trip, self.guards
-        )?;
-        writeln!(
-            out,
-            "input, {} bytes: {}",
-            self.input.len(),
-            hex(&self.input)
-        )?;
+        writeln!(out, "round trip: {}", self.round_trip)?;
+        writeln!(out, "fabric or table {}", self.fabric)?;
+        write!(out, "state {}", self.state)?;
+        if let [only] = &self.calls[..] {
+            return write!(out, "\n{only}");
+        }
+        write!(out, "\n{} calls", self.calls.len())
+    }
+}
+
+impl fmt::Display for LentCall {
+    fn fmt(&self, out: &mut fmt::Formatter) -> fmt::Result {
+        let LentCall {
+            call,
+            given,
+            result,
+            ..
+        } = self;
         write!(
             out,
-            "result's memory before, {} bytes: {}",
-            self.result.len(),
-            hex(&self.result)
+            "{call:?}\nchoices or proposal {given}\nresult's memory {result}"
+        )
+    }
+}
+
+impl fmt::Display for Lent {
+    fn fmt(&self, out: &mut fmt::Formatter) -> fmt::Result {
+        let Lent { bytes, guard } = self;
+        write!(
+            out,
+            "({guard:?}), {} bytes before: {}",
+            bytes.len(),
+            hex(bytes)
         )
     }
 }

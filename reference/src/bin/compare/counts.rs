@@ -2,30 +2,51 @@
 
 use std::fmt;
 
-pub const UNPACK: usize = 0;
-pub const PACK: usize = 1;
+use crate::case::Call;
+use crate::options::Calls;
 
-/// Each call with the numbers it can come to.
-const CALLS: [(&str, &[u32]); 2] = [
+/// Each call with the numbers it can come to, in the order of its tests.
+const CALLS: [(&str, &[u32]); 6] = [
     ("unpack", &[0, 1, 2, 3, 4, 5, 6, 7, 8, 23]),
-    ("pack", &[0, 3, 4, 6, 7, 8, 23]),
+    ("pack", &[0, 4, 3, 6, 7, 8, 23]),
+    ("start", &[0, 1, 2, 3, 4, 5, 6, 7, 8, 21]),
+    ("step", &[0, 1, 2, 3, 4, 5, 6, 7, 8, 21, 22, 9, 10, 23]),
+    ("run", &[0, 1, 2, 3, 4, 5, 6, 7, 8, 21, 22, 9, 10]),
+    ("check", &[0, 1, 2, 3, 4, 5, 6, 7, 8, 11, 12, 13, 14, 23]),
 ];
+
+fn column(call: Call) -> usize {
+    match call {
+        Call::Unpack => 0,
+        Call::Pack { .. } => 1,
+        Call::Start => 2,
+        Call::Step => 3,
+        Call::Run => 4,
+        Call::Check => 5,
+    }
+}
 
 const HIGHEST: usize = 23;
 
+type Reached = [u64; HIGHEST + 1];
+
 pub struct Counts {
-    reached: [[u64; HIGHEST + 1]; CALLS.len()],
+    reached: Vec<Reached>,
 }
 
 impl Counts {
-    pub fn new() -> Counts {
+    pub fn new(calls: Calls) -> Counts {
+        let compared = match calls {
+            Calls::Files => column(Call::Start),
+            Calls::All => CALLS.len(),
+        };
         Counts {
-            reached: [[0; HIGHEST + 1]; CALLS.len()],
+            reached: vec![[0; HIGHEST + 1]; compared],
         }
     }
 
-    pub fn add(&mut self, call: usize, number: u32) {
-        self.reached[call][number as usize] += 1;
+    pub fn add(&mut self, call: Call, number: u32) {
+        self.reached[column(call)][number as usize] += 1;
     }
 
     pub fn total(&self) -> u64 {
@@ -34,32 +55,39 @@ impl Counts {
 
     /// The calls and numbers reached fewer than `least` times.
     pub fn reached_too_seldom(&self, least: u64) -> Vec<(&'static str, u32)> {
-        let wanted = CALLS
-            .iter()
-            .zip(&self.reached)
-            .flat_map(|((call, numbers), reached)| {
-                numbers
-                    .iter()
-                    .map(move |&number| (*call, number, reached[number as usize]))
-            });
+        let wanted = self.columns().flat_map(|(call, numbers, reached)| {
+            let with_count = numbers
+                .iter()
+                .map(|&number| (number, reached[number as usize]));
+            with_count.map(move |(number, count)| (call, number, count))
+        });
         wanted
             .filter(|wanted| wanted.2 < least)
             .map(|(call, number, _)| (call, number))
             .collect()
+    }
+
+    fn columns(&self) -> impl Iterator<Item = (&'static str, &'static [u32], &Reached)> {
+        let compared = CALLS.iter().zip(&self.reached);
+        compared.map(|((call, numbers), reached)| (*call, *numbers, reached))
     }
 }
 
 impl fmt::Display for Counts {
     fn fmt(&self, out: &mut fmt::Formatter) -> fmt::Result {
         write!(out, "number")?;
-        for (call, _) in CALLS {
+        for (call, ..) in self.columns() {
             write!(out, "{call:>10}")?;
         }
-        for number in (0..=HIGHEST).filter(|&number| is_a_number(number as u32)) {
+        for number in 0..=HIGHEST as u32 {
+            let has = |numbers: &[u32]| numbers.contains(&number);
+            if !self.columns().any(|(_, numbers, _)| has(numbers)) {
+                continue;
+            }
             write!(out, "\n{number:>6}")?;
-            for ((_, numbers), reached) in CALLS.iter().zip(&self.reached) {
-                if numbers.contains(&(number as u32)) {
-                    write!(out, "{:>10}", reached[number])?;
+            for (_, numbers, reached) in self.columns() {
+                if has(numbers) {
+                    write!(out, "{:>10}", reached[number as usize])?;
                 } else {
                     write!(out, "{:>10}", "-")?;
                 }
@@ -67,8 +95,4 @@ impl fmt::Display for Counts {
         }
         Ok(())
     }
-}
-
-fn is_a_number(number: u32) -> bool {
-    CALLS.iter().any(|(_, numbers)| numbers.contains(&number))
 }

@@ -20,6 +20,11 @@ pub fn enter_case(number: u64) {
 }
 
 pub fn report_crashes() {
+    let print_panic = std::panic::take_hook();
+    std::panic::set_hook(Box::new(move |panic| {
+        eprintln!("panic in case {}", CASE.load(Ordering::Relaxed));
+        print_panic(panic);
+    }));
     for number in ILLEGAL_ABORT_BUS_SEGMENT {
         unsafe { signal(number, report) };
     }

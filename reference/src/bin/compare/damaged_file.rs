@@ -3,7 +3,8 @@
 use reference::packed::{file_length, repair_check_byte, HEADER, RECORD};
 use reference::random::Random;
 
-use crate::random_cases::{damage_count, random_or_damaged_fabric};
+use crate::random_cases::damage_count;
+use crate::random_fabrics::random_or_damaged_fabric;
 
 /// Edition, colours, the 0 bit, components and channels.
 const HEADER_WIDTHS: [usize; 5] = [4, 3, 1, 8, 8];
@@ -23,7 +24,7 @@ pub fn random_file(random: &mut Random) -> Vec<u8> {
     for _ in 0..damage_count(random) {
         damage(random, &mut file);
     }
-    if file.len() >= HEADER && random.percent(93) {
+    if file.len() >= HEADER && random.percent(90) {
         repair_check_byte(&mut file);
     }
     file

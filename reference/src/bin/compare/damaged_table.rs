@@ -4,7 +4,8 @@ use reference::open_table::ROW;
 use reference::random::Random;
 
 use crate::case::Call;
-use crate::random_cases::{damage_count, random_or_damaged_fabric};
+use crate::random_cases::damage_count;
+use crate::random_fabrics::random_or_damaged_fabric;
 
 /// Values around the ends of the fields' ranges.
 const EDGES: [u8; 14] = [0, 1, 2, 7, 8, 9, 16, 62, 63, 64, 66, 127, 128, 255];

@@ -4,27 +4,48 @@ use std::fmt;
 
 pub struct Difference {
     what: &'static str,
+    during: String,
     library: String,
     second: String,
 }
 
 impl fmt::Display for Difference {
     fn fmt(&self, out: &mut fmt::Formatter) -> fmt::Result {
-        writeln!(out, "{} differs", self.what)?;
+        writeln!(out, "{}{} differs", self.during, self.what)?;
         writeln!(out, "  library: {}", self.library)?;
         write!(out, "  second:  {}", self.second)
     }
 }
 
-pub fn same_number(what: &'static str, library: u64, second: u64) -> Result<(), Difference> {
+impl Difference {
+    fn new(what: &'static str, library: String, second: String) -> Difference {
+        Difference {
+            what,
+            during: String::new(),
+            library,
+            second,
+        }
+    }
+
+    /// Says what was going on.
+    pub fn during(mut self, text: String) -> Difference {
+        self.during = text + "\n";
+        self
+    }
+}
+
+pub fn same<T>(what: &'static str, library: T, second: T) -> Result<(), Difference>
+where
+    T: PartialEq + fmt::Display,
+{
     if library == second {
         return Ok(());
     }
-    Err(Difference {
+    Err(Difference::new(
         what,
-        library: library.to_string(),
-        second: second.to_string(),
-    })
+        library.to_string(),
+        second.to_string(),
+    ))
 }
 
 pub fn same_bytes(what: &'static str, library: &[u8], second: &[u8]) -> Result<(), Difference> {
@@ -40,11 +61,7 @@ pub fn same_bytes(what: &'static str, library: &[u8], second: &[u8]) -> Result<(
         Some(byte) => format!("byte {first} is {byte:02x}, all: {}", hex(bytes)),
         None => format!("ends before byte {first}, all: {}", hex(bytes)),
     };
-    Err(Difference {
-        what,
-        library: describe(library),
-        second: describe(second),
-    })
+    Err(Difference::new(what, describe(library), describe(second)))
 }
 
 pub fn hex(bytes: &[u8]) -> String {

@@ -1,16 +1,68 @@
-//! The document's own cases, with the numbers it gives.
+//! The document's own cases with the numbers it gives, and others at the bounds.
 
 use reference::component::{Component, Kind};
+use reference::random::Random;
+use reference::random_fabric::{random_fabric, Plan};
 use reference::samples::{
-    credit_loop, fork_into_join, function_row, looped_queues, queue, sink, source,
+    credit_loop, credit_loops, fork_into_join, function_row, looped_queues, queue, sink, source,
 };
+use reference::terms::{write_proposal, Term, MOST_TERMS, MULTIPLIER_BOUND};
 use reference::Fabric;
 
-use crate::case::{Call, Case, Guards};
-use crate::lent_memory::Guard;
+use crate::case::{Call, Case, Expected, Lent, LentCall};
+use crate::credit_loop_cases::credit_loop_cases;
+use crate::options::Calls;
+use crate::panel_cases::panel_cases;
+use crate::random_lists::long_run;
+
+pub fn fixed_cases(calls: Calls) -> Vec<Case> {
+    let mut cases = file_cases();
+    if calls == Calls::All {
+        cases.extend(credit_loop_cases());
+        cases.extend(panel_cases());
+        cases.push(heaviest_sum());
+        cases.extend(long_runs());
+    }
+    cases
+}
+
+/// A queue on itself, whose flow cancels in every term, and as much weight as there can be.
+fn heaviest_sum() -> Case {
+    let fabric = Fabric {
+        components: vec![queue(0, 0, 63, 63)],
+        ..looped_queues(1)
+    };
+    let term = Term {
+        component: 0,
+        index: 0,
+        multiplier: -MULTIPLIER_BOUND,
+    };
+    let proposal = write_proposal(&[term; MOST_TERMS]);
+    let listing = Expected::Listing("Q 0 0 -4294967296\nSUM -270582939648\n".to_string());
+    Case {
+        fabric: Lent::new(fabric.to_file()),
+        state: Lent::nothing(),
+        calls: vec![LentCall::plain(Call::Check, &proposal, 64, listing)],
+        round_trip: false,
+    }
+}
+
+fn long_runs() -> Vec<Case> {
+    let random = &mut Random::new(0, 0);
+    let plan = Plan {
+        size: 128,
+        colours: 8,
+        circles: false,
+    };
+    let largest = random_fabric(random, &plan);
+    vec![
+        long_run(random, &credit_loops(21)),
+        long_run(random, &largest),
+    ]
+}
 
 /// Each fabric as a file to unpack and as a table to pack; then memory of no length at all.
-pub fn fixed_cases() -> Vec<Case> {
+fn file_cases() -> Vec<Case> {
     let mut cases = Vec::new();
     for (fabric, number) in fixed_fabrics() {
         let (file, table) = (fabric.to_file(), fabric.to_table());
@@ -36,17 +88,11 @@ pub fn fixed_cases() -> Vec<Case> {
 }
 
 fn fixed_case(call: Call, input: Vec<u8>, space: usize, number: u32) -> Case {
-    let guards = Guards {
-        input: Guard::BehindOrNull,
-        result: Guard::BehindOrNull,
-    };
     Case {
-        call,
-        input,
-        result: vec![0xA5; space],
-        guards,
+        fabric: Lent::new(input),
+        state: Lent::nothing(),
+        calls: vec![LentCall::plain(call, &[], space, Expected::Number(number))],
         round_trip: true,
-        number: Some(number),
     }
 }
 

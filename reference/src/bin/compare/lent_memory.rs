@@ -80,16 +80,13 @@ impl LentMemory {
         self.bytes_mut().copy_from_slice(bytes);
     }
 
-    pub fn start(&self) -> *const u8 {
-        self.start
+    /// Start and length.
+    pub fn part(&self) -> (*const u8, usize) {
+        (self.start, self.len)
     }
 
-    pub fn start_mut(&mut self) -> *mut u8 {
-        self.start
-    }
-
-    pub fn len(&self) -> usize {
-        self.len
+    pub fn part_mut(&mut self) -> (*mut u8, usize) {
+        (self.start, self.len)
     }
 
     pub fn bytes(&self) -> &[u8] {

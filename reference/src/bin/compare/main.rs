@@ -1,20 +1,38 @@
 //! Compares the kit's static library, called over C, with the second program.
 
+mod answer;
 mod case;
 mod counts;
 mod crash;
+mod credit_loop_cases;
+mod damaged_choices;
 mod damaged_fabric;
 mod damaged_file;
+mod damaged_proposal;
+mod damaged_state;
 mod damaged_table;
 mod difference;
-mod file_trial;
+#[cfg(feature = "all-calls")]
+#[path = "../shared/fabric_library.rs"]
+mod fabric_library;
+#[cfg_attr(not(feature = "all-calls"), path = "no_fabric_side.rs")]
+mod fabric_side;
+#[cfg(feature = "all-calls")]
+mod fabric_sisters;
+mod file_sisters;
 mod fixed_cases;
 mod lent_memory;
 #[path = "../shared/library.rs"]
 mod library;
+mod library_side;
 mod options;
+mod panel_cases;
+mod random_calls;
 mod random_cases;
-mod sisters;
+mod random_fabrics;
+mod random_lists;
+mod round_trip;
+mod second_side;
 mod trial;
 
 use std::process::ExitCode;
@@ -39,22 +57,22 @@ fn main() -> ExitCode {
     crash::report_crashes();
     println!("seed {}", options.seed);
     match options.only {
-        Some(number) => show(options.seed, number),
+        Some(number) => show(&options, number),
         None => compare(&options),
     }
 }
 
 /// The fixed cases come first; each other case follows from the seed and its number alone.
-fn nth_case(fixed: &[Case], seed: u64, number: u64) -> Case {
-    let random = || random_case(&mut Random::new(seed, number));
+fn nth_case(fixed: &[Case], options: &Options, number: u64) -> Case {
+    let random = || random_case(&mut Random::new(options.seed, number), options.calls);
     fixed.get(number as usize).cloned().unwrap_or_else(random)
 }
 
-fn show(seed: u64, number: u64) -> ExitCode {
-    let case = nth_case(&fixed_cases(), seed, number);
+fn show(options: &Options, number: u64) -> ExitCode {
+    let case = nth_case(&fixed_cases(options.calls), options, number);
     println!("case {number}\n{case}");
     crash::enter_case(number);
-    match Trial::new().run(&case) {
+    match Trial::new(options.calls).run(&case) {
         Ok(answer) => {
             println!("both sides answer {answer} and agree");
             ExitCode::SUCCESS
@@ -67,8 +85,8 @@ fn show(seed: u64, number: u64) -> ExitCode {
 }
 
 fn compare(options: &Options) -> ExitCode {
-    let fixed = fixed_cases();
-    let mut trial = Trial::new();
+    let fixed = fixed_cases(options.calls);
+    let mut trial = Trial::new(options.calls);
     let mut found = None;
     let mut number = 0;
     let begin = Instant::now();
@@ -78,7 +96,7 @@ fn compare(options: &Options) -> ExitCode {
             .map_or(number < options.cases, |time| begin.elapsed() < time)
     {
         crash::enter_case(number);
-        let case = nth_case(&fixed, options.seed, number);
+        let case = nth_case(&fixed, options, number);
         found = trial
             .run(&case)
             .err()
@@ -87,8 +105,9 @@ fn compare(options: &Options) -> ExitCode {
     }
     let seconds = begin.elapsed().as_secs_f64();
     println!(
-        "{number} cases, {} compared calls, {seconds:.1} s",
-        trial.counts.total()
+        "{number} cases, {} compared calls, {} times a sum followed, {seconds:.1} s",
+        trial.counts.total(),
+        trial.sums_followed
     );
     println!("{}", trial.counts);
     verdict(found, &trial.counts.reached_too_seldom(LEAST))

@@ -1,18 +1,32 @@
-//! Random cases: a file or a table, good or damaged, and memory for the result.
+//! Random cases: one call, or a list of calls on one state.
 
 use reference::open_table::ROW;
 use reference::packed::{file_length, RECORD};
 use reference::random::Random;
-use reference::random_fabric::{random_fabric, Plan};
-use reference::Fabric;
 
-use crate::case::{Call, Case, Guards};
-use crate::damaged_fabric::damage_fabric;
+use crate::case::{Call, Case, Expected, Lent, LentCall};
 use crate::damaged_file::random_file;
 use crate::damaged_table::random_table;
 use crate::lent_memory::Guard;
+use crate::options::Calls;
+use crate::random_calls::random_fabric_call;
+use crate::random_lists::random_list;
 
-pub fn random_case(random: &mut Random) -> Case {
+pub fn random_case(random: &mut Random, calls: Calls) -> Case {
+    if calls == Calls::Files {
+        return random_file_case(random);
+    }
+    match random.below(100) {
+        0..44 => random_file_case(random),
+        44..56 => random_fabric_call(random, Call::Start),
+        56..70 => random_fabric_call(random, Call::Step),
+        70..83 => random_fabric_call(random, Call::Run),
+        83..98 => random_fabric_call(random, Call::Check),
+        _ => random_list(random),
+    }
+}
+
+fn random_file_case(random: &mut Random) -> Case {
     let (call, input, exact_space) = if random.percent(50) {
         let file = random_file(random);
         let space = file.len() / RECORD * ROW;
@@ -22,40 +36,36 @@ pub fn random_case(random: &mut Random) -> Case {
         let space = file_length(table.len() / ROW);
         (call, table, space)
     };
-    let mut result = vec![0; random_space(random, exact_space)];
-    random.fill(&mut result);
-    let guards = Guards {
-        input: random_guard(random),
-        result: random_guard(random),
-    };
+    let result = random_memory(random, exact_space);
     Case {
-        call,
-        input,
-        result,
-        guards,
         round_trip: random.percent(15),
-        number: None,
+        ..one_call(random, call, [input, Vec::new(), Vec::new(), result])
     }
 }
 
-/// A fabric of one to 128 components, often small and often as large as can be.
-/// Some are damaged in their wiring or counts.
-pub fn random_or_damaged_fabric(random: &mut Random) -> Fabric {
-    let size = match random.below(100) {
-        0..40 => random.between(1, 8),
-        40..65 => random.between(1, 128),
-        _ => 128,
-    };
-    let plan = Plan {
-        size,
-        colours: random.between(1, 8),
-        circles: random.percent(15),
-    };
-    let mut fabric = random_fabric(random, &plan);
-    if random.percent(25) {
-        damage_fabric(random, &mut fabric);
+/// A case of one call with its four parts of memory.
+pub fn one_call(random: &mut Random, call: Call, parts: [Vec<u8>; 4]) -> Case {
+    let [fabric, state, given, result] = parts.map(|bytes| lent(random, bytes));
+    Case {
+        fabric,
+        state,
+        calls: vec![LentCall {
+            call,
+            given,
+            result,
+            expected: Expected::Nothing,
+        }],
+        round_trip: false,
     }
-    fabric
+}
+
+pub fn lent(random: &mut Random, bytes: Vec<u8>) -> Lent {
+    let guard = match random.below(4) {
+        0 => Guard::Before,
+        1 => Guard::BehindOrNull,
+        _ => Guard::Behind,
+    };
+    Lent { bytes, guard }
 }
 
 /// How often a file or table is damaged once it is made.
@@ -67,20 +77,16 @@ pub fn damage_count(random: &mut Random) -> usize {
     }
 }
 
-fn random_space(random: &mut Random, exact: usize) -> usize {
-    match random.below(100) {
+/// Memory of any content that is as long as the result, or longer, or short.
+pub fn random_memory(random: &mut Random, exact: usize) -> Vec<u8> {
+    let space = match random.below(100) {
         0..55 => exact,
         55..70 => exact + random.between(1, 100),
         70..85 => exact.saturating_sub(1),
         85..92 => 0,
         _ => random.between(0, exact),
-    }
-}
-
-fn random_guard(random: &mut Random) -> Guard {
-    match random.below(4) {
-        0 => Guard::Before,
-        1 => Guard::BehindOrNull,
-        _ => Guard::Behind,
-    }
+    };
+    let mut memory = vec![0; space];
+    random.fill(&mut memory);
+    memory
 }

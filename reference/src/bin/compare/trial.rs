@@ -1,57 +1,148 @@
 //! Runs a case on both sides and compares all that comes back.
 
-use crate::case::{Call, Case, Guards};
+use reference::check::Sum;
+use reference::component::MOST_COLOURS;
+use reference::state::COMPONENT_STATE;
+
+use crate::answer::Answer;
+use crate::case::{Call, Case, Expected, Lent};
 use crate::counts::Counts;
-use crate::difference::{same_bytes, same_number, Difference};
+use crate::difference::{hex, same, same_bytes, Difference};
 use crate::lent_memory::LentMemory;
+use crate::options::Calls;
+use crate::{library_side, second_side};
 
 /// At least as much as any case lends in one piece.
-const ROOM: usize = 16384;
+pub const ROOM: usize = 1 << 17;
+
+/// Where the header has N.
+const COMPONENT_COUNT: usize = 1;
+
+/// The parts of lent memory: fabric or table, state, choices or proposal, and a result's memory.
+pub const PARTS: usize = 4;
+pub const FABRIC: usize = 0;
+pub const STATE: usize = 1;
+pub const GIVEN: usize = 2;
+pub const RESULT: usize = 3;
 
 pub struct Trial {
-    pub input: LentMemory,
-    pub result: LentMemory,
+    pub parts: [LentMemory; PARTS],
     pub counts: Counts,
+    /// How often an accepted sum was looked at in a state.
+    pub sums_followed: u64,
 }
 
 impl Trial {
-    pub fn new() -> Trial {
+    pub fn new(calls: Calls) -> Trial {
         Trial {
-            input: LentMemory::new(ROOM),
-            result: LentMemory::new(ROOM),
-            counts: Counts::new(),
+            parts: std::array::from_fn(|_| LentMemory::new(ROOM)),
+            counts: Counts::new(calls),
+            sums_followed: 0,
         }
     }
 
-    /// The number of the case's call, the same on both sides.
+    /// The number of the case's last call, the same on both sides.
     pub fn run(&mut self, case: &Case) -> Result<u32, Difference> {
-        let number = match case.call {
-            Call::Unpack => self.unpack_and_back(case)?,
-            Call::Pack { colours, channels } => self.pack_and_back(colours, channels, case)?,
-        };
-        if let Some(expected) = case.number {
-            same_number(
-                "number and the document's own",
-                number.into(),
-                expected.into(),
-            )?;
+        self.lend(FABRIC, &case.fabric);
+        self.lend(STATE, &case.state);
+        let mut started = false;
+        let mut followed = Vec::new();
+        let mut last = 0;
+        for (place, lent) in case.calls.iter().enumerate() {
+            self.lend(GIVEN, &lent.given);
+            self.lend(RESULT, &lent.result);
+            let state = self.parts[STATE].bytes().to_vec();
+            let describe = |difference: Difference| {
+                let state = hex(&state);
+                difference.during(format!("call {place}, state before: {state}\n{lent}"))
+            };
+            let answer = self.call(lent.call).map_err(describe)?;
+            last = answer.number;
+            self.as_expected(&lent.expected, &answer)
+                .map_err(describe)?;
+            started |= lent.call == Call::Start && last == 0;
+            if lent.call == Call::Check && last == 0 {
+                followed.push(self.accepted_sum(&answer));
+            }
+            if started {
+                self.same_sums(&followed).map_err(describe)?;
+                self.sums_followed += followed.len() as u64;
+            }
+            if case.round_trip && last == 0 {
+                self.round_trip(lent.call, case, &answer)?;
+            }
         }
-        Ok(number)
+        Ok(last)
     }
 
-    pub fn lend(&mut self, input: &[u8], result: &[u8], guards: Guards) {
-        self.input.lend(input, guards.input);
-        self.result.lend(result, guards.result);
+    pub fn lend(&mut self, part: usize, lent: &Lent) {
+        self.parts[part].lend(&lent.bytes, lent.guard);
+    }
+
+    /// Makes a call on both sides, on what is lent.
+    pub fn call(&mut self, call: Call) -> Result<Answer, Difference> {
+        let before = self.parts.each_ref().map(|part| part.bytes().to_vec());
+        let mut after = before.clone();
+        let second = second_side::call(call, &mut after);
+        self.counts.add(call, second.number);
+
+        library_side::sisters(call, &self.parts).same_but_number(&second)?;
+        self.same_memory("memory after the sister calls", &before)?;
+        let number = library_side::call(call, &mut self.parts);
+        same("number", number, second.number)?;
+        self.same_memory("memory after the call", &after)?;
+        Ok(second)
     }
 
     /// Whether the lent memory now holds these bytes.
-    pub fn same_memory(
-        &self,
-        what: &'static str,
-        input: &[u8],
-        result: &[u8],
-    ) -> Result<(), Difference> {
-        same_bytes(what, self.result.bytes(), result)?;
-        same_bytes(what, self.input.bytes(), input)
+    fn same_memory(&self, what: &'static str, second: &[Vec<u8>; PARTS]) -> Result<(), Difference> {
+        let mut pairs = self.parts.iter().zip(second);
+        pairs.try_for_each(|(part, second)| same_bytes(what, part.bytes(), second))
+    }
+
+    fn as_expected(&self, expected: &Expected, answer: &Answer) -> Result<(), Difference> {
+        let number = |expected| same("number and the documents' own", answer.number, expected);
+        match expected {
+            Expected::Nothing => Ok(()),
+            Expected::Number(expected) => number(*expected),
+            Expected::Refused {
+                number: refused,
+                place,
+            } => {
+                number(*refused)?;
+                same("place and the documents' own", answer.place, *place)
+            }
+            Expected::Result(bytes) => {
+                number(0)?;
+                same_bytes(
+                    "result and the documents' own",
+                    self.parts[RESULT].bytes(),
+                    bytes,
+                )
+            }
+            Expected::Listing(text) => {
+                number(0)?;
+                let listing = self.accepted_sum(answer).listing();
+                same("listing and the documents' own", &listing, text)
+            }
+        }
+    }
+
+    /// The sum whose weights an accepted check has just written.
+    fn accepted_sum(&self, answer: &Answer) -> Sum {
+        let components = usize::from(self.parts[FABRIC].bytes()[COMPONENT_COUNT]);
+        let entries = self.parts[RESULT].bytes().as_chunks().0;
+        let weights = entries[..MOST_COLOURS * components].iter();
+        Sum {
+            weights: weights.map(|entry| i64::from_le_bytes(*entry)).collect(),
+            constant: answer.constant,
+        }
+    }
+
+    /// Each accepted sum has its constant in the state as it now is.
+    fn same_sums(&self, sums: &[Sum]) -> Result<(), Difference> {
+        let states = self.parts[STATE].bytes().as_chunks::<COMPONENT_STATE>().0;
+        let mut sums = sums.iter();
+        sums.try_for_each(|sum| same("sum and constant", sum.value(states), sum.constant))
     }
 }

@@ -1,4 +1,4 @@
-//! The sister calls: they take what their call takes and write nothing.
+//! The sister calls of unpack and pack: they take what their call takes and write nothing.
 
 extern "C" {
     pub fn fabric_unpack_place(

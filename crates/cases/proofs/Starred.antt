@@ -1,0 +1,34 @@
+-- The table of starred cases, computed from the definitions. Assumes nothing.
+use mathlib.Core.Path.{_≡_, refl}
+use Rattle.integers.specs.Sum.{sumTo, isZero}
+use Rattle.digits.specs.Least.{least}
+use Rattle.digits.specs.Count.{count}
+use Rattle.order.specs.Graph.{any, walks, hasCircle}
+use Rattle.order.specs.Values.{val}
+use Rattle.record.specs.Record.{recordRow, recordPad, recordBytes}
+use Rattle.record.specs.Table.{openTable, records}
+use Rattle.component.specs.Kind.{kindOf, portOf, portUse, usesFirstMap, usesSecondMap, usesMask, isSource, isQueue}
+use Rattle.component.specs.Row.{rowOk}
+use Rattle.wiring.specs.Ends.{firstUnmatched}
+use Rattle.wiring.specs.Signals.{dependsOn, nearOf, endOf, dependence}
+use Rattle.reader.specs.File.{headerFields, firstBadRow, firstBadRecord}
+use Rattle.fabric.specs.PackedFile.{headerBytes, packedFile}
+use Rattle.fabric.specs.Calls.{packed}
+use Rattle.rules.specs.Rules.{rule}
+use Rattle.signals.specs.Signals.{ruleOf, value, moved, moves}
+use Rattle.state.specs.Cells.{coloursOf, cellWith, cells}
+use Rattle.state.specs.Choices.{goodChoice, choiceAt, badChoice}
+use Rattle.state.specs.Good.{goodByte, all, goodCell, badComponent}
+use Rattle.state.specs.Start.{startCell, startAt, started}
+use Rattle.state.specs.Step.{cellNext, nextAt, stateNext, next}
+use Rattle.equations.specs.Equations.{side, hasIndex, hasEquation, factor}
+use Rattle.flows.specs.Terms.{component, index, multiplier}
+use Rattle.flows.specs.Flows.{flowSum, weight, entry, acceptedSum, constant}
+use Rattle.flows.specs.Verdict.{badTerm, isLeft, isWeight, constantBy, upTo, tableBy}
+use Rattle.checker.specs.Calls.{netlistIn, startVerdict, stateAfterStart, stepVerdict, stateAfterStep, movesAfterStep, checkVerdict, checkConstant, weightsAfterCheck}
+use Rattle.cases.specs.CreditLoop.{creditTable, creditFile, forkIntoJoin}
+use Rattle.cases.specs.Starred.{starred, found, expected}
+
+pub all-starred : found starred ≡ expected starred
+unfolding starred creditTable creditFile forkIntoJoin packedFile headerBytes headerFields records recordBytes recordRow recordPad openTable firstBadRow firstBadRecord firstUnmatched endOf dependence dependsOn nearOf least count any walks hasCircle rowOk kindOf portOf portUse usesFirstMap usesSecondMap usesMask isSource isQueue packed netlistIn startVerdict stateAfterStart stepVerdict stateAfterStep movesAfterStep checkVerdict checkConstant weightsAfterCheck started cells startAt startCell cellWith coloursOf goodChoice choiceAt badChoice goodByte all goodCell badComponent cellNext nextAt stateNext next moves moved value val ruleOf rule sumTo isZero side hasIndex hasEquation factor component index multiplier flowSum weight entry acceptedSum constant badTerm isLeft isWeight constantBy upTo tableBy
+all-starred = refl

@@ -1,0 +1,6 @@
+pub mod Files
+pub mod Checking
+pub mod Bytes
+pub mod Stepping
+pub mod Running
+pub mod Demands

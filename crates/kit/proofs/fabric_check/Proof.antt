@@ -1,0 +1,25 @@
+use mathlib.Core.Path.{ap, _∙_}
+use Rattle.refusals.specs.Refusals.{numberOf}
+use borrow.Author.Needs.{needs}
+use Rattle.kit.proofs.fabric_check.Statement.{statement}
+use Rattle.kit.proofs.fabric_check.Tie as tie
+use Rattle.kit.proofs.fabric_check.Reads as reads
+use Rattle.kit.proofs.fabric_check.Lts as lts
+use Rattle.checker.proofs.check_bytes.Reads as check-bytes-reads
+use Rattle.refusals.proofs.number_of.Reads as number-of-reads
+
+check-bytes-requires : tie.Need-check-bytes-requires
+check-bytes-requires c κs = search needs
+
+number-of-requires : tie.Need-number-of-requires
+number-of-requires c κs = search needs
+
+same-length : tie.Need-same-length
+same-length c = search needs
+
+returns : tie.Need-returns
+returns c = (c .number-of .ensures ∙ ap numberOf (c .before .before .before .check-bytes .ensures .0), c .before .before .before .check-bytes .ensures .1)
+
+pub fabric-check-spec : {M : Type 1} → statement M
+fabric-check-spec =
+    tie.close (tie.spec check-bytes-requires number-of-requires same-length returns)

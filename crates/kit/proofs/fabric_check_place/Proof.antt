@@ -1,0 +1,21 @@
+use mathlib.Core.Path.{ap, _∙_}
+use Rattle.refusals.specs.Refusals.{placeOf}
+use borrow.Author.Needs.{needs}
+use Rattle.kit.proofs.fabric_check_place.Statement.{statement}
+use Rattle.kit.proofs.fabric_check_place.Tie as tie
+use Rattle.kit.proofs.fabric_check_place.Reads as reads
+use Rattle.kit.proofs.fabric_check_place.Lts as lts
+use Rattle.checker.proofs.check_answer.Reads as check-answer-reads
+use Rattle.refusals.proofs.place_of.Reads as place-of-reads
+
+check-answer-requires : tie.Need-check-answer-requires
+check-answer-requires c κs = search needs
+
+place-of-requires : tie.Need-place-of-requires
+place-of-requires c κs = search needs
+
+returns : tie.Need-returns
+returns c = c .place-of .ensures ∙ ap placeOf (c .before .check-answer .ensures .0)
+
+pub fabric-check-place-spec : {M : Type 1} → statement M
+fabric-check-place-spec = tie.close (tie.spec check-answer-requires place-of-requires returns)

@@ -1,0 +1,24 @@
+use mathlib.Core.Path.{ap, _∙_}
+use Rattle.refusals.specs.Refusals.{numberOf}
+use borrow.Author.Needs.{needs}
+use Rattle.kit.proofs.fabric_run.Statement.{statement}
+use Rattle.kit.proofs.fabric_run.Tie as tie
+use Rattle.kit.proofs.fabric_run.Reads as reads
+use Rattle.kit.proofs.fabric_run.Lts as lts
+use Rattle.checker.proofs.run.Reads as run-reads
+use Rattle.refusals.proofs.number_of.Reads as number-of-reads
+
+run-requires : tie.Need-run-requires
+run-requires c κs = search needs
+
+number-of-requires : tie.Need-number-of-requires
+number-of-requires c κs = search needs
+
+same-length : tie.Need-same-length
+same-length c = search needs
+
+returns : tie.Need-returns
+returns c = (c .number-of .ensures ∙ ap numberOf (c .before .before .before .run .ensures .0), c .before .before .before .run .ensures .1)
+
+pub fabric-run-spec : {M : Type 1} → statement M
+fabric-run-spec = tie.close (tie.spec run-requires number-of-requires same-length returns)

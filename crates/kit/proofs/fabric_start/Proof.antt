@@ -1,0 +1,24 @@
+use mathlib.Core.Path.{ap, _∙_}
+use Rattle.refusals.specs.Refusals.{numberOf}
+use borrow.Author.Needs.{needs}
+use Rattle.kit.proofs.fabric_start.Statement.{statement}
+use Rattle.kit.proofs.fabric_start.Tie as tie
+use Rattle.kit.proofs.fabric_start.Reads as reads
+use Rattle.kit.proofs.fabric_start.Lts as lts
+use Rattle.checker.proofs.start.Reads as start-reads
+use Rattle.refusals.proofs.number_of.Reads as number-of-reads
+
+start-requires : tie.Need-start-requires
+start-requires c κs = search needs
+
+number-of-requires : tie.Need-number-of-requires
+number-of-requires c κs = search needs
+
+same-length : tie.Need-same-length
+same-length c = search needs
+
+returns : tie.Need-returns
+returns c = (c .number-of .ensures ∙ ap numberOf (c .before .before .before .start .ensures .0), c .before .before .before .start .ensures .1)
+
+pub fabric-start-spec : {M : Type 1} → statement M
+fabric-start-spec = tie.close (tie.spec start-requires number-of-requires same-length returns)

@@ -1,0 +1,71 @@
+//! The document's cases of start, step and check on the credit loop.
+
+use reference::samples::{credit_loop, credit_terms};
+use reference::terms::{write_proposal, Term};
+
+use crate::case::{Call, Case, Expected, Lent, LentCall};
+
+const LISTING: &str = "Q 2 0 1\nQ 5 0 1\nSUM 2\n";
+const SOURCE_CHOOSES: [u8; 6] = [1, 0, 0, 0, 0, 0];
+const SINK_CHOOSES: [u8; 6] = [0, 0, 0, 0, 1, 0];
+const NO_SUCH_CHOICE: [u8; 6] = [2, 0, 0, 0, 0, 0];
+
+pub fn credit_loop_cases() -> Vec<Case> {
+    let terms = credit_terms();
+    let no_equation = Term {
+        component: 0,
+        index: 0,
+        multiplier: 1,
+    };
+    let mut count_of_3 = vec![0; 64 * 6];
+    count_of_3[64 * 2] = 3;
+    vec![
+        case(vec![
+            start(),
+            step(SOURCE_CHOOSES, Expected::Result(vec![1, 1, 1, 0, 0, 0])),
+            step(SOURCE_CHOOSES, Expected::Result(vec![1, 1, 1, 0, 0, 0])),
+            step(SOURCE_CHOOSES, Expected::Result(vec![0; 6])),
+        ]),
+        case(vec![
+            start(),
+            step(SINK_CHOOSES, Expected::Result(vec![0; 6])),
+            step(NO_SUCH_CHOICE, refused(10, 0)),
+        ]),
+        case(vec![
+            start(),
+            check(&terms, Expected::Listing(LISTING.to_string())),
+            check(&terms[..4], refused(13, 24)),
+            check(&[], refused(14, 0)),
+            check(&[no_equation], refused(12, 0)),
+        ]),
+        Case {
+            state: Lent::new(count_of_3),
+            ..case(vec![step(SOURCE_CHOOSES, refused(22, 2))])
+        },
+    ]
+}
+
+fn case(calls: Vec<LentCall>) -> Case {
+    Case {
+        fabric: Lent::new(credit_loop().to_file()),
+        state: Lent::new(vec![0xA5; 64 * 6]),
+        calls,
+        round_trip: false,
+    }
+}
+
+fn refused(number: u32, place: u64) -> Expected {
+    Expected::Refused { number, place }
+}
+
+fn start() -> LentCall {
+    LentCall::plain(Call::Start, &[], 0, Expected::Number(0))
+}
+
+fn step(choices: [u8; 6], expected: Expected) -> LentCall {
+    LentCall::plain(Call::Step, &choices, 6, expected)
+}
+
+fn check(terms: &[Term], expected: Expected) -> LentCall {
+    LentCall::plain(Call::Check, &write_proposal(terms), 64 * 6, expected)
+}

@@ -1,0 +1,18 @@
+//! The choices: a byte a component in each step.
+
+use crate::component::{Component, Kind};
+use crate::state::holds_allowed;
+
+pub fn is_allowed(component: &Component, choice: u8) -> bool {
+    match component.kind {
+        Kind::Source => holds_allowed(component, choice),
+        Kind::Sink | Kind::Merge => choice <= 1,
+        _ => choice == 0,
+    }
+}
+
+/// The offset of the first choice that is not allowed, in the choices of any number of steps.
+pub fn lowest_bad_choice(components: &[Component], choices: &[u8]) -> Option<usize> {
+    let mut pairs = choices.iter().zip(components.iter().cycle());
+    pairs.position(|(&choice, component)| !is_allowed(component, choice))
+}

@@ -1,0 +1,129 @@
+//! Random proposals in which all flows cancel.
+
+use std::collections::BTreeMap;
+
+use crate::equations::{equation, INDEXES};
+use crate::fabric::Fabric;
+use crate::null_space::null_space;
+use crate::random::Random;
+use crate::terms::{Term, MOST_TERMS, MULTIPLIER_BOUND};
+
+/// A component and an index of it.
+type Name = (usize, usize);
+
+/// The equations of a fabric, and combinations of them in which all flows cancel.
+pub struct Equations {
+    names: Vec<Name>,
+    cancelling: Vec<Vec<Term>>,
+}
+
+impl Equations {
+    pub fn of(fabric: &Fabric) -> Equations {
+        let exists = |&(component, index): &Name| {
+            let component = &fabric.components[component];
+            equation(component, fabric.colours, index, |_, _| {})
+        };
+        let numbers = 0..INDEXES * fabric.components.len();
+        let names = numbers.map(|number| (number / INDEXES, number % INDEXES));
+        let mut cancelling = null_space(fabric);
+        cancelling.retain(|terms| terms.iter().all(|term| fits(term.multiplier)));
+        Equations {
+            names: names.filter(exists).collect(),
+            cancelling,
+        }
+    }
+
+    /// `None` if there are no equations.
+    pub fn pick(&self, random: &mut Random) -> Option<Name> {
+        (!self.names.is_empty()).then(|| random.pick(&self.names))
+    }
+
+    /// Terms in which all flows cancel, none if that is the only way. Often equal terms are split
+    /// and terms without effect are added, up to as many as there may be, in any order.
+    pub fn cancelling_terms(&self, random: &mut Random) -> Vec<Term> {
+        if self.cancelling.is_empty() {
+            return Vec::new();
+        }
+        let plain = self.cancelling[random.below(self.cancelling.len())].clone();
+        if random.percent(30) {
+            return plain;
+        }
+        let totals = self.random_totals(random);
+        let mut terms = split(random, &totals);
+        if terms.len() > MOST_TERMS {
+            return plain;
+        }
+        let spare = MOST_TERMS - terms.len();
+        let added = match random.below(10) {
+            0 => spare,
+            1..6 => random.between(0, spare.min(60)),
+            _ => 0,
+        };
+        self.add_idle_terms(random, &mut terms, added);
+        random.shuffle(&mut terms);
+        terms
+    }
+
+    /// The multiplier of each equation in some combinations together.
+    fn random_totals(&self, random: &mut Random) -> BTreeMap<Name, i64> {
+        let mut totals = BTreeMap::new();
+        for _ in 0..random.pick(&[1, 1, 2, 5]) {
+            let times = match random.below(10) {
+                0..5 => 1,
+                5 => -1,
+                6..9 => random.between(0, 10) as i64 - 5,
+                _ => random.between(0, 1 << 22) as i64 - (1 << 21),
+            };
+            for term in &self.cancelling[random.below(self.cancelling.len())] {
+                let total: &mut i64 = totals.entry((term.component, term.index)).or_default();
+                *total += times * term.multiplier;
+            }
+        }
+        totals
+    }
+
+    /// Terms with multiplier 0, and pairs that take each other away.
+    fn add_idle_terms(&self, random: &mut Random, terms: &mut Vec<Term>, count: usize) {
+        let full = terms.len() + count;
+        while terms.len() < full {
+            let name = random.pick(&self.names);
+            let size = random.below(MULTIPLIER_BOUND as usize) as i64;
+            if terms.len() + 2 <= full && random.percent(70) {
+                terms.extend([term(name, size), term(name, -size)]);
+            } else {
+                terms.push(term(name, 0));
+            }
+        }
+    }
+}
+
+fn fits(multiplier: i64) -> bool {
+    (-MULTIPLIER_BOUND..MULTIPLIER_BOUND).contains(&multiplier)
+}
+
+fn term((component, index): Name, multiplier: i64) -> Term {
+    Term {
+        component,
+        index,
+        multiplier,
+    }
+}
+
+/// As many terms for each total as it takes, some of them more.
+fn split(random: &mut Random, totals: &BTreeMap<Name, i64>) -> Vec<Term> {
+    let mut terms = Vec::new();
+    for (&name, &total) in totals {
+        let mut left = total;
+        while !fits(left) || random.percent(20) {
+            let part = if fits(left) {
+                random.below(MULTIPLIER_BOUND as usize) as i64 * left.signum() / 2
+            } else {
+                left.clamp(-MULTIPLIER_BOUND, MULTIPLIER_BOUND - 1)
+            };
+            terms.push(term(name, part));
+            left -= part;
+        }
+        terms.push(term(name, left));
+    }
+    terms
+}
