@@ -1,4 +1,4 @@
--- The credit loop and the fork into a join, computed from the definitions. Assumes nothing.
+-- The credit loop, computed from the definitions. Assumes nothing.
 use mathlib.Core.Path.{_≡_, refl}
 use mathlib.Core.List.{List, [], _∷_}
 use Prim.Native.Nat.{ℕ}
@@ -16,9 +16,7 @@ use Rattle.component.specs.Netlist.{netlist}
 use Rattle.wiring.specs.Ends.{firstUnmatched}
 use Rattle.wiring.specs.Signals.{dependsOn, nearOf, endOf, dependence}
 use Rattle.wiring.specs.Steps.{Kinds}
-use Rattle.refusals.specs.declared.Refusal.the-variants.{Circle}
-use Rattle.refusals.specs.declared.Verdict.the-variants.{Refused}
-use Rattle.reader.specs.File.{headerFields, firstBadRow, firstBadRecord}
+use Rattle.reader.specs.File.{headerFields, firstBadRecord}
 use Rattle.reader.specs.Reading.{reading}
 use Rattle.reader.specs.Accepted.{AcceptedFabric, ReadOf}
 use Rattle.reader.specs.Steps.{Unpacking}
@@ -27,8 +25,7 @@ use Rattle.reader.specs.declared.Reading.the-variants.{Fabric}
 use Rattle.reader.proofs.Accepted.{accepted-records}
 use Rattle.reader.proofs.Facts.{table-kinds, records-accepted}
 use Rattle.fabric.specs.PackedFile.{headerBytes, packedFile}
-use Rattle.fabric.specs.Calls.{packed}
-use Rattle.cases.specs.CreditLoop.{creditTable, creditFile, forkIntoJoin}
+use Rattle.cases.specs.CreditLoop.{creditTable, creditFile}
 
 -- Header hex 10 06 06 4E, length 82.
 pub credit-header : take 4 creditFile ≡ 16 ∷ 6 ∷ 6 ∷ 78 ∷ []
@@ -43,11 +40,6 @@ credit-length = refl
 pub credit-reads : reading creditFile ≡ Fabric 1 6 6
 unfolding creditFile creditTable packedFile headerBytes headerFields records recordBytes recordRow recordPad openTable reading firstBadRecord firstUnmatched endOf dependence dependsOn nearOf least count any walks hasCircle rowOk kindOf portOf portUse usesFirstMap usesSecondMap usesMask isSource isQueue
 credit-reads = refl
-
--- A fork whose outputs are the two inputs of one join: 8.
-pub fork-into-join : packed 1 4 forkIntoJoin 56 ≡ Refused Circle
-unfolding forkIntoJoin packed firstBadRow firstUnmatched endOf dependence dependsOn nearOf least count any walks hasCircle rowOk kindOf portOf portUse usesFirstMap usesSecondMap usesMask isSource isQueue
-fork-into-join = refl
 
 -- ---- the hypothesis records hold of the credit loop
 -- all that an accepted fabric gives, of what `read` lays down for it

@@ -41,9 +41,11 @@ use Rattle.balance.specs.Counts.{counts}
 use Rattle.balance.specs.Balance.{transfer}
 use Rattle.balance.proofs.Counts.{start-counts}
 use Rattle.balance.proofs.Holds.{holds}
+use Rattle.roundtrip.proofs.RoundTrip.{roundTripFile, roundTripTable, writtenAccepted, oneFile, oneTable}
+use Rattle.signals.proofs.Signals.{value-rule, value-only}
 use Rattle.checker.specs.Calls.{netlistIn, kept, shortState, startVerdict, stateAfterStart, stepVerdict, stateAfterStep, afterSteps, runVerdict, stateAfterRun, checkVerdict, checkConstant}
 use Rattle.checker.specs.Steps.{readyTests}
-use Rattle.checker.specs.Demands.{Call, start, step, run, stateAfter, stateAfterAll, verdictOn, ConstantSums, AcceptedExactly, GoodAlways}
+use Rattle.checker.specs.Demands.{Call, start, step, run, stateAfter, stateAfterAll, verdictOn, ConstantSums, AcceptedExactly, GoodAlways, FilesAndTables, StepSignals}
 use Rattle.checker.proofs.Checking.{read-fabric}
 use Rattle.checker.proofs.Stepping.{ready-facts}
 use Rattle.checker.proofs.Running.{steps-keep}
@@ -236,3 +238,13 @@ goodAlways file state began calls call =
     let x = facts file (ok .0) in
     let r = calls-keep file (ok .0) (x .0) (x .1) (x .2) (λ s. Unit {0}) (λ s l. tt) (λ s ch g w q. tt) calls (started f state) (fresh file (ok .0) (x .0) (x .1) (x .2) (λ s. Unit {0}) (λ s l. tt) (λ s ch g w q. tt) state (ok .1)) in
     verdict-stateless file (ok .0) call (stateAfterAll file calls (stateAfterStart file state)) (subst (λ (s : List ℕ). Good f (stateAfterAll file calls s)) (sym (start-writes file state began)) (r .0))
+
+-- ---- demand 2
+pub filesAndTables : FilesAndTables
+filesAndTables = (roundTripFile, roundTripTable, writtenAccepted, oneFile, oneTable)
+
+pub stepSignals : StepSignals
+stepSignals file ok state choices =
+    let f : Netlist = netlistIn file in
+    let x = facts file ok in
+    (value-rule f (x .0) (x .1) (x .2) state choices, value-only f (x .0) (x .1) (x .2) state choices)

@@ -1,19 +1,33 @@
--- What the customer is promised of start, step, run and check: the theorems that proofs/Demands.antt proves. The contracts of the four calls
--- (src/) say that their answers and every lent byte after them are the definitions of Calls.antt.
+-- What the customer is promised: the theorems that proofs/Demands.antt proves or cites. Demand 1 is the contracts (src/): of each call the answer and
+-- every lent byte after it are the definitions of Calls.antt, of unpack and pack those of fabric/specs/Calls.antt, with nothing required.
 use mathlib.Core.Path.{_≡_}
 use mathlib.Core.Logic.{_↔_}
 use mathlib.Core.List.{List, [], _∷_}
-use Prim.Native.Nat.{ℕ, _*_, _≤_}
+use Prim.Native.Nat.{ℕ, _*_, _≤_, _<_}
 use lib.ListN.{length}
 use Rattle.refusals.specs.Refusals.{firstRefusal}
 use Rattle.refusals.specs.declared.Refusal.the-variants.{State, Cell}
 use Rattle.refusals.specs.declared.Verdict.{Verdict}
 use Rattle.refusals.specs.declared.Verdict.the-variants.{Accepted, Refused}
 use Rattle.reader.specs.File.{fileTests}
+use Rattle.roundtrip.specs.RoundTrip.{RoundTripFile, RoundTripTable, WrittenAccepted, OneFile, OneTable}
+use Rattle.signals.specs.Signals.{ruleOf, value}
 use Rattle.flows.specs.Flows.{Cancels, acceptedSum}
 use Rattle.flows.specs.Verdict.{WellFormed, SomeWeight}
 use Rattle.balance.specs.Counts.{counts}
 use Rattle.checker.specs.Calls.{netlistIn, startVerdict, stateAfterStart, stepVerdict, stateAfterStep, runVerdict, stateAfterRun, checkVerdict, checkConstant}
+
+-- ---- demand 2
+-- An accepted packed file and its open table turn into each other exactly, with one encoding each.
+abbrev pub FilesAndTables : Type 0
+FilesAndTables = RoundTripFile × RoundTripTable × WrittenAccepted × OneFile × OneTable
+
+-- A step is the synchronous step: the signals by which step moves satisfy every rule, and no other values do.
+abbrev pub StepSignals : Type 0
+StepSignals = (file : List ℕ) → firstRefusal (fileTests file) ≡ Accepted → (state choices : List ℕ)
+    → ((s : ℕ) → s < 2 * netlistIn file .channels → value (netlistIn file) state choices s ≡ ruleOf (netlistIn file) state choices s (value (netlistIn file) state choices))
+    × ((v : ℕ → ℕ) → ((s : ℕ) → s < 2 * netlistIn file .channels → v s ≡ ruleOf (netlistIn file) state choices s v)
+    → (s : ℕ) → s < 2 * netlistIn file .channels → v s ≡ value (netlistIn file) state choices s)
 
 -- ---- the list of calls
 -- start; step with choices and space for its moves; run with choices: of any bytes and any length
