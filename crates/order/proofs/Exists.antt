@@ -98,7 +98,8 @@ module _ (T : List ℕ) (n : ℕ) where
 -- where a table's dependences hold no circle there is a good order
 pub order-exists : (T : List ℕ) (n : ℕ) → 4 * n ≤ length T → n ≤ 510 → hasCircle (dep T) n ≡ false → (O : List ℕ) × Sorted (dep T) n O
 order-exists T n t h none =
-    grow T n none n (replicate n 0) (replicate n 0) 0 (zeros-replicate n) (length-replicate {A = ℕ} n 0) (good-none T (replicate n 0) n t (length-replicate {A = ℕ} n 0) h)
+    let len = length-replicate {A = ℕ} n 0 in
+    grow T n none n (replicate n 0) (replicate n 0) 0 (zeros-replicate n) len (good-none T (replicate n 0) n t (omega arith) h)
 
 -- there is a list of the first m values of a function
 pub listed : (f : ℕ → ℕ) (m : ℕ) → (l : List ℕ) × (length l ≡ m) × ((i : ℕ) → i < m → getD l i 0 ≡ f i)

@@ -13,13 +13,13 @@ use Rattle.order.proofs.Graph.{any-some, walks-next}
 use Rattle.order.proofs.Zeros.{zeros-set, zeros-all, zeros-replicate, getD-zeros}
 
 -- nothing is in the order yet
-pub good-none : (D O : List ℕ) (n : ℕ) → 4 * n ≤ length D → length O ≡ n → n ≤ 510 → Good D (replicate n 0) O 0
+pub good-none : (D O : List ℕ) (n : ℕ) → 4 * n ≤ length D → n ≤ length O → n ≤ 510 → Good D (replicate n 0) O 0
 good-none D O n t l h =
     let len = length-replicate {A = ℕ} n 0 in
     let z = getD-zeros n in
     record {
       table = omega arith;
-      same = omega arith;
+      fits = omega arith;
       short = omega arith;
       full = omega (arith, zeros-replicate n);
       back = λ s p q. absurd (omega (arith, z s));
@@ -90,7 +90,7 @@ module _ {D P O : List ℕ} {c : ℕ} (g : Good D P O c) where
     here = getD-set-same P s (c + 1) 0 h
 
     last : getD (set O c s) c 0 ≡ s
-    last = getD-set-same O c s 0 (omega (arith, room s h e, g .same))
+    last = getD-set-same O c s 0 (omega (arith, room s h e, g .fits))
 
     earlier : (p : ℕ) → p < c → getD (set O c s) p 0 ≡ getD O p 0
     earlier p q = getD-set-other O c p s 0 (λ (i : p ≡ c). absurd (omega arith))
@@ -104,7 +104,7 @@ module _ {D P O : List ℕ} {c : ℕ} (g : Good D P O c) where
         let len′ = length-set O c s in
         record {
           table = omega (arith, g .table);
-          same = omega (arith, g .same);
+          fits = omega (arith, g .fits);
           short = omega (arith, g .short);
           full = omega (arith, g .full, zeros-set P s (c + 1) h e (omega arith));
           back = λ x p. back′ x p (ℕ-discrete x s);

@@ -13,7 +13,7 @@ use Rattle.order.specs.declared.Walk.the-variants.{Circle, Extended}
 -- Each signal in the order stands after all that it depends on.
 pub record Good (D P O : List ℕ) (c : ℕ) : Type 0 where
   pub table : 4 * length P ≤ length D
-  pub same : length O ≡ length P
+  pub fits : length P ≤ length O
   pub short : length P ≤ 510
   pub full : zeros P + c ≡ length P
   pub back : (s p : ℕ) → getD P s 0 ≡ p + 1 → (p < c) × (getD O p 0 ≡ s)

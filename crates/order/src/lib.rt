@@ -9,28 +9,34 @@ ghost use Rattle.order.specs.Places.{Good, Fresh, visited, ordered};
 // What a visit finds: a circle, or how many signals the order now has.
 enum Walk {
     Circle,
-    Extended(usize),
+    Extended(u16),
+}
+
+fn wide(n: u16) -> usize
+    ensures { λ r. ⌜ r ≡ n ⌝ }
+{
+    n as usize
 }
 
 // Puts s at place c of the order, and returns the order's new count.
-fn put(s: usize, place: &mut [u16], order: &mut [u16], c: usize) -> usize
-    requires { ⌜ (s < length (now place)) × (c < length (now order)) × (length (now place) ≤ 510) × (length (now order) ≤ 510) ⌝ }
+fn put(s: usize, place: &mut [u16], order: &mut [u16; 510], c: u16) -> u16
+    requires { ⌜ (s < length (now place)) × (length (now place) ≤ 510) × (c < 510) ⌝ }
     ensures { λ r. ⌜ (r ≡ c + 1) × (now (place .exit) ≡ set (now (place .entry)) s (c + 1)) × (now (order .exit) ≡ set (now (order .entry)) c s) ⌝ }
 {
-    order[c] = s as u16;
-    place[s] = (c + 1) as u16;
+    order[c as usize] = s as u16;
+    place[s] = c + 1;
     c + 1
 }
 
 // Puts s, which is not in the order yet, and all that it depends on into the order, or finds a walk of `depth` dependences from s.
 // place[s] is 0 while s is not in the order, and then 1 + its place there. An entry that is none, or in the order, is passed over.
 fn visit(
-    deps: &[u16],
+    deps: &[u16; 2040],
     s: usize,
     depth: usize,
     place: &mut [u16],
-    order: &mut [u16],
-    count: usize,
+    order: &mut [u16; 510],
+    count: u16,
 ) -> Walk
     requires { ⌜ Fresh (now deps) s (now place) (now order) count ⌝ }
     ensures { λ r. ⌜ visited (now (deps .entry)) s depth (now (place .entry)) (now (place .exit)) (now (order .exit)) r ⌝ }
@@ -41,7 +47,7 @@ fn visit(
     let mut c = count;
     let mut k = 0;
     while k < 4 {
-        let d = deps[4 * s + k] as usize;
+        let d = wide(deps[4 * s + k]);
         if d < place.len() {
             if place[d] == 0 {
                 match visit(deps, d, depth - 1, place, order, c) {
@@ -60,7 +66,7 @@ fn visit(
 }
 
 // Visits all signals, of which there are as many as places, that are not in the order yet.
-fn visit_all(deps: &[u16], place: &mut [u16], order: &mut [u16]) -> Walk
+fn visit_all(deps: &[u16; 2040], place: &mut [u16], order: &mut [u16; 510]) -> Walk
     requires { ⌜ Good (now deps) (now place) (now order) 0 ⌝ }
     ensures { λ r. ⌜ ordered (now (deps .entry)) (length (now (place .entry))) (now (order .exit)) r ⌝ }
 {
@@ -83,12 +89,12 @@ fn visit_all(deps: &[u16], place: &mut [u16], order: &mut [u16]) -> Walk
 }
 
 // Puts the n signals of a table into the order, and says whether the table holds a circle.
-pub fn order_of(deps: &[u16], n: usize, order: &mut [u16]) -> bool
+pub fn order_of(deps: &[u16; 2040], n: usize, order: &mut [u16; 510]) -> bool
     requires { ⌜ (n ≤ 510) × (4 * n ≤ length (now deps)) × (n ≤ length (now order)) ⌝ }
     ensures { λ r. ⌜ OrderOf (dep (now (deps .entry))) n r (now (order .exit)) ⌝ }
 {
     let mut place = [0u16; 510];
-    match visit_all(deps, &mut place[..n], &mut order[..n]) {
+    match visit_all(deps, &mut place[..n], order) {
         Walk::Circle => true,
         Walk::Extended(_c) => false,
     }

@@ -45,6 +45,7 @@ pub record Entries (table : List ℕ) (e s : ℕ) (before after : List ℕ) : Ty
 
 -- a table of the dependences
 pub record Dependences (table : List ℕ) (n channels : ℕ) (deps : List ℕ) : Type 0 where
+  pub long : length deps ≡ 2040
   pub at : (s j : ℕ) → s < 2 * channels → j < 4 → getD deps (4 * s + j) 0 ≡ dependence table n s j
 
 -- what `wire` gives

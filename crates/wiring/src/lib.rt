@@ -174,18 +174,16 @@ fn put_entries(table: &[u8], e: usize, s: usize, deps: &mut [u16; 2040])
     }
 }
 
-// The dependences of all signals, four entries a signal.
-fn dependences(table: &[u8], n: usize, ends: &[u16], channels: usize) -> [u16; 2040]
-    requires { ⌜ Kinds (now table) n × (channels ≤ 255) × Ends (now table) n channels (now ends) × (length (now ends) ≡ 513) ⌝ }
-    ensures { λ r. ⌜ Dependences (now (table .entry)) n channels r ⌝ }
+// Lays down the dependences of all signals, four entries a signal.
+fn dependences(table: &[u8], n: usize, ends: &[u16], channels: usize, deps: &mut [u16; 2040])
+    requires { ⌜ Kinds (now table) n × (channels ≤ 255) × Ends (now table) n channels (now ends) × (length (now ends) ≡ 513) × (length (now deps) ≡ 2040) ⌝ }
+    ensures { λ _. ⌜ Dependences (now (table .entry)) n channels (now (deps .exit)) ⌝ }
 {
-    let mut deps = [0u16; 2040];
     let mut s: usize = 0;
     while s < 2 * channels {
-        put_entries(table, end_before(ends[s]), s, &mut deps);
+        put_entries(table, end_before(ends[s]), s, &mut *deps);
         s += 1;
     }
-    deps
 }
 
 // What holds of a table's channels.
@@ -197,7 +195,7 @@ pub enum Wired {
 
 // Tests the ends of all channels and their signals' dependences. Of sound channels it lays down 1 + the end that gives each
 // signal, and the signals' order.
-pub fn wire(table: &[u8], n: usize, channels: usize, ends: &mut [u16], order: &mut [u16]) -> Wired
+pub fn wire(table: &[u8], n: usize, channels: usize, ends: &mut [u16], order: &mut [u16; 510]) -> Wired
     requires { ⌜ Kinds (now table) n × (channels ≤ 255) × (now ends ≡ replicate 513 0) × (510 ≤ length (now order)) ⌝ }
     ensures { λ r. ⌜ Wiring (now (table .entry)) n channels r (now (ends .exit)) (now (order .exit)) ⌝ }
 {
@@ -206,7 +204,8 @@ pub fn wire(table: &[u8], n: usize, channels: usize, ends: &mut [u16], order: &m
     if bad < channels {
         return Wired::Unmatched(bad);
     }
-    let deps = dependences(table, n, &*ends, channels);
+    let mut deps = [0u16; 2040];
+    dependences(table, n, &*ends, channels, &mut deps);
     if order::order_of(&deps, 2 * channels, &mut *order) {
         return Wired::Circular;
     }

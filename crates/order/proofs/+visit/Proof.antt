@@ -20,6 +20,7 @@ use borrow.Fn.PlainCycle.{Measures, is, falls, and}
 use Rattle.order.proofs.visit.Reads as visit
 use Rattle.order.proofs.visit.Kinds as visit-kinds
 use Rattle.order.proofs.+visit.Lts-visit as visit-lts
+use Rattle.order.proofs.wide.Reads as wide-reads
 use Rattle.order.proofs.put.Reads as put-reads
 use Rattle.order.proofs.+visit.{statement}
 use Rattle.order.proofs.+visit.Tie.{close}
@@ -34,7 +35,7 @@ abbrev visit-below : ℕ → In 3 visit-kinds.ps
 visit-below t = and 3 visit-kinds.ps (falls 3 visit-kinds.ps _<_ μ-visit t) visit.Pre
 
 abbrev callees : ℕ → visit-lts.Claims
-callees t = (visit-below t, visit.Post, put-reads.Asked, put-reads.Learnt)
+callees t = (wide-reads.Asked, wide-reads.Learnt, visit-below t, visit.Post, put-reads.Asked, put-reads.Learnt)
 
 -- what holds at the loop's head
 record Turn (D : List ℕ) (s : ℕ) (P₀ P O : List ℕ) (c k : ℕ) : Type 0 where
@@ -48,14 +49,14 @@ record Turn (D : List ℕ) (s : ℕ) (P₀ P O : List ℕ) (c k : ℕ) : Type 0 
 
 module _ {D : List ℕ} {s : ℕ} {P₀ P O : List ℕ} {c k : ℕ} (u : Turn D s P₀ P O c k) where
   -- a circle below an entry of s is one below s
-  circle-up : {depth : ℕ} → k < 4 → (depth ≡ 0 → ⊥) → walks (dep D) (length P) (depth - 1) (dep D s k) ≡ true → walks (dep D) (length P₀) depth s ≡ true
-  circle-up {depth} hk pos w =
+  circle-up : {depth d : ℕ} → k < 4 → (depth ≡ 0 → ⊥) → d ≡ dep D s k → walks (dep D) (length P) (depth - 1) d ≡ true → walks (dep D) (length P₀) depth s ≡ true
+  circle-up {depth} hk pos i w =
       let e : depth ≡ suc (depth - 1) = omega arith in
-      rw (e, ← u .long) (walks-suc (dep D) (length P) (depth - 1) s k (u .below) hk w)
+      rw (e, ← u .long) (walks-suc (dep D) (length P) (depth - 1) s k (u .below) hk (rw i at w))
 
   -- one more entry of s is visited
-  turn-visit : k < 4 → dep D s k < length P → {P′ O′ : List ℕ} {c′ : ℕ} → length P′ ≡ length P → Grown D (dep D s k) P P′ O′ c′ → Turn D s P₀ P′ O′ c′ (k + 1)
-  turn-visit hk hd {P′} len g = record {
+  turn-visit : {d : ℕ} → k < 4 → d ≡ dep D s k → d < length P → {P′ O′ : List ℕ} {c′ : ℕ} → length P′ ≡ length P → Grown D d P P′ O′ c′ → Turn D s P₀ P′ O′ c′ (k + 1)
+  turn-visit hk i hd {P′} len v = let g = rw i at v in record {
     good = g .good;
     kept = λ x q. g .kept x (u .kept x q);
     long = len ∙ u .long;
@@ -66,14 +67,14 @@ module _ {D : List ℕ} {s : ℕ} {P₀ P O : List ℕ} {c k : ℕ} (u : Turn D 
   }
 
   -- one more entry of s is none, or in the order
-  turn-pass : k < 4 → (dep D s k < length P → 0 < getD P (dep D s k) 0) → {P′ O′ : List ℕ} {c′ : ℕ} → P′ ≡ P → O′ ≡ O → c′ ≡ c → Turn D s P₀ P′ O′ c′ (k + 1)
-  turn-pass hk h eP eO ec = rw (eP, eO, ec) (record {
+  turn-pass : {d : ℕ} → k < 4 → d ≡ dep D s k → (d < length P → 0 < getD P d 0) → {P′ O′ : List ℕ} {c′ : ℕ} → P′ ≡ P → O′ ≡ O → c′ ≡ c → Turn D s P₀ P′ O′ c′ (k + 1)
+  turn-pass hk i h eP eO ec = rw (eP, eO, ec) (record {
     good = u .good;
     kept = u .kept;
     long = u .long;
     below = u .below;
     out = u .out;
-    done = below-more (λ (j : ℕ). dep D s j < length P → 0 < getD P (dep D s j) 0) k (u .done) h;
+    done = below-more (λ (j : ℕ). dep D s j < length P → 0 < getD P (dep D s j) 0) k (u .done) (rw i at h);
     few = omega arith;
   })
 
@@ -93,25 +94,25 @@ abbrev visit-μ-loop : visit-lts.MeasureT-loop
 visit-μ-loop deps s depth place₀ order₀ count c₀ k₀ place order c k = 4 - k
 
 visit-returns : (t : ℕ) → visit-lts.Need-returns (callees t) (visit-at t) visit.Post visit-Inv-loop visit-μ-loop
-visit-returns t c = rw (c .if1 .taken) (walks-zero _ _ _ (c .before .before .before .before .pre .1 .below))
+visit-returns t c = rw (c .if1 .taken) (walks-zero _ _ _ (c .before .before .pre .1 .below))
 
 visit-loop-holds : (t : ℕ) → visit-lts.Need-loop-holds (callees t) (visit-at t) visit.Post visit-Inv-loop visit-μ-loop
 visit-loop-holds t c = search needs
 
-visit-mul-d : (t : ℕ) → visit-lts.Need-mul-d (callees t) (visit-at t) visit.Post visit-Inv-loop visit-μ-loop
-visit-mul-d t c = search needs
+visit-mul-wide : (t : ℕ) → visit-lts.Need-mul-wide (callees t) (visit-at t) visit.Post visit-Inv-loop visit-μ-loop
+visit-mul-wide t c = search needs
 
-visit-add-d : (t : ℕ) → visit-lts.Need-add-d (callees t) (visit-at t) visit.Post visit-Inv-loop visit-μ-loop
-visit-add-d t c = search needs
+visit-add-wide : (t : ℕ) → visit-lts.Need-add-wide (callees t) (visit-at t) visit.Post visit-Inv-loop visit-μ-loop
+visit-add-wide t c = search needs
 
-visit-mul-d-2 : (t : ℕ) → visit-lts.Need-mul-d-2 (callees t) (visit-at t) visit.Post visit-Inv-loop visit-μ-loop
-visit-mul-d-2 t c = search needs
+visit-mul-wide-2 : (t : ℕ) → visit-lts.Need-mul-wide-2 (callees t) (visit-at t) visit.Post visit-Inv-loop visit-μ-loop
+visit-mul-wide-2 t c = search needs
 
-visit-shared-slice-read-d : (t : ℕ) → visit-lts.Need-shared-slice-read-d (callees t) (visit-at t) visit.Post visit-Inv-loop visit-μ-loop
-visit-shared-slice-read-d t c = search needs
+visit-element-copy-out-wide : (t : ℕ) → visit-lts.Need-element-copy-out-wide (callees t) (visit-at t) visit.Post visit-Inv-loop visit-μ-loop
+visit-element-copy-out-wide t c = search needs
 
-visit-cast-d : (t : ℕ) → visit-lts.Need-cast-d (callees t) (visit-at t) visit.Post visit-Inv-loop visit-μ-loop
-visit-cast-d t c = let b = c .before .before in omega (arith, c .shared-slice-known2 .given (4 * b .before .before .before .before .before .args .s + b .loop .k))
+visit-wide-requires : (t : ℕ) → visit-lts.Need-wide-requires (callees t) (visit-at t) visit.Post visit-Inv-loop visit-μ-loop
+visit-wide-requires t c κs = search needs
 
 visit-mul-if3 : (t : ℕ) → visit-lts.Need-mul-if3 (callees t) (visit-at t) visit.Post visit-Inv-loop visit-μ-loop
 visit-mul-if3 t c = search needs
@@ -131,14 +132,11 @@ visit-enum-told t c = search needs
 visit-same-length : (t : ℕ) → visit-lts.Need-same-length (callees t) (visit-at t) visit.Post visit-Inv-loop visit-μ-loop
 visit-same-length t c = search needs
 
-visit-same-length-2 : (t : ℕ) → visit-lts.Need-same-length-2 (callees t) (visit-at t) visit.Post visit-Inv-loop visit-μ-loop
-visit-same-length-2 t c = search needs
-
 visit-returns-2 : (t : ℕ) → visit-lts.Need-returns-2 (callees t) (visit-at t) visit.Post visit-Inv-loop visit-μ-loop
 visit-returns-2 t c =
-    let v = c .before .before .before .before .before .before in
-    let b = v .before .before .before .before .before .before .before in
-    circle-up (b .before .loop .inv) (omega arith) (b .before .before .if1 .left) (rw (c .enum-told .given .1) at (v .visit .ensures))
+    let v = c .before .before .before .before in
+    let b = v .before .before .before .before .before .before .before .before in
+    circle-up (b .before .loop .inv) (omega arith) (b .before .before .if1 .left) (v .before .before .before .before .before .before .wide .ensures) (rw (c .enum-told .given .1) at (v .visit .ensures))
 
 visit-enum-known-next : (t : ℕ) → visit-lts.Need-enum-known-next (callees t) (visit-at t) visit.Post visit-Inv-loop visit-μ-loop
 visit-enum-known-next t c = search needs
@@ -151,24 +149,22 @@ visit-loop-less t c = search needs
 
 visit-loop-again : (t : ℕ) → visit-lts.Need-loop-again (callees t) (visit-at t) visit.Post visit-Inv-loop visit-μ-loop
 visit-loop-again t c =
-    let u = c .before .before .before .loop .inv in
+    let u = c .before .before .before .before .loop .inv in
+    let e = c .before .wide .ensures in
     ⊎-elim
-    (λ w. rw (w .13, w .14, w .15) (turn-visit u (omega arith) (w .0 .taken) (w .5 .kept .1 .1 .1 .0) (rw (w .11 .given .1) at (w .5 .ensures))))
-    (⊎-elim (λ w. turn-pass u (omega arith) (λ q. omega arith) (w .3) (w .4) (w .5)) (λ w. turn-pass u (omega arith) (λ q. absurd (omega arith)) (w .1) (w .2) (w .3)))
+    (λ w. rw (w .11, w .12, w .13) (turn-visit u (omega arith) e (w .0 .taken) (w .5 .kept .1 .1 .1 .0) (rw (w .9 .given .1) at (w .5 .ensures))))
+    (⊎-elim (λ w. turn-pass u (omega arith) e (λ q. omega arith) (w .3) (w .4) (w .5)) (λ w. turn-pass u (omega arith) e (λ q. absurd (omega arith)) (w .1) (w .2) (w .3)))
     (c .if2 .came)
 
 visit-put-requires : (t : ℕ) → visit-lts.Need-put-requires (callees t) (visit-at t) visit.Post visit-Inv-loop visit-μ-loop
 visit-put-requires t c κs = let u = c .before .before .before .loop .inv in omega (arith, room (u .good) _ (omega arith) (u .out))
 
-visit-same-length-3 : (t : ℕ) → visit-lts.Need-same-length-3 (callees t) (visit-at t) visit.Post visit-Inv-loop visit-μ-loop
-visit-same-length-3 t c = search needs
-
-visit-same-length-4 : (t : ℕ) → visit-lts.Need-same-length-4 (callees t) (visit-at t) visit.Post visit-Inv-loop visit-μ-loop
-visit-same-length-4 t c = search needs
+visit-same-length-2 : (t : ℕ) → visit-lts.Need-same-length-2 (callees t) (visit-at t) visit.Post visit-Inv-loop visit-μ-loop
+visit-same-length-2 t c = search needs
 
 visit-returns-3 : (t : ℕ) → visit-lts.Need-returns-3 (callees t) (visit-at t) visit.Post visit-Inv-loop visit-μ-loop
 visit-returns-3 t c =
-    let p = c .before .before .before .before in
+    let p = c .before .before in
     turn-put (p .before .before .before .before .loop .inv) (omega arith) (p .put .ensures .0) (p .put .ensures .1) (p .put .ensures .2)
 
 pub +visit-spec : {M : Type 1} → statement M
@@ -179,24 +175,22 @@ pub +visit-spec : {M : Type 1} → statement M
     visit-μ-loop
     (visit-returns t)
     (visit-loop-holds t)
-    (visit-mul-d t)
-    (visit-add-d t)
-    (visit-mul-d-2 t)
-    (visit-shared-slice-read-d t)
-    (visit-cast-d t)
+    (visit-mul-wide t)
+    (visit-add-wide t)
+    (visit-mul-wide-2 t)
+    (visit-element-copy-out-wide t)
+    (visit-wide-requires t)
     (visit-mul-if3 t)
     (visit-slice-read-if3 t)
     (visit-sub-visit t)
     (visit-visit-requires t)
     (visit-enum-told t)
     (visit-same-length t)
-    (visit-same-length-2 t)
     (visit-returns-2 t)
     (visit-enum-known-next t)
     (visit-add-k t)
     (visit-loop-less t)
     (visit-loop-again t)
     (visit-put-requires t)
-    (visit-same-length-3 t)
-    (visit-same-length-4 t)
+    (visit-same-length-2 t)
     (visit-returns-3 t)

@@ -72,12 +72,9 @@ enum-told c = search needs
 same-length : tie.Need-same-length Inv-loop μ-loop
 same-length c = search needs
 
-same-length-2 : tie.Need-same-length-2 Inv-loop μ-loop
-same-length-2 c = search needs
-
 returns : tie.Need-returns Inv-loop μ-loop
 returns c =
-    let b = c .before .before .before .before .before .before in
+    let b = c .before .before .before .before in
     let t = b .before .before .before .before .before in
     done-circle (t .before .loop .inv) (t .loop-test .taken) (rw (c .enum-told .given .1) at (b .visit .ensures)) (omega arith)
 
@@ -96,15 +93,12 @@ loop-again c =
     let u = b .before .loop .inv in
     let h = b .loop-test .taken in
     ⊎-elim
-    (λ w. rw (w .11, w .12, w .13) (done-visit u h (w .3 .kept .1 .1 .1 .0) (rw (w .9 .given .1) at (w .3 .ensures))))
+    (λ w. rw (w .9, w .10, w .11) (done-visit u h (w .3 .kept .1 .1 .1 .0) (rw (w .7 .given .1) at (w .3 .ensures))))
     (λ w. done-pass u h (omega arith) (w .1) (w .2) (w .3))
     (c .if1 .came)
 
-same-length-3 : tie.Need-same-length-3 Inv-loop μ-loop
-same-length-3 c = search needs
-
-same-length-4 : tie.Need-same-length-4 Inv-loop μ-loop
-same-length-4 c = search needs
+same-length-2 : tie.Need-same-length-2 Inv-loop μ-loop
+same-length-2 c = search needs
 
 returns-2 : tie.Need-returns-2 Inv-loop μ-loop
 returns-2 c = done-all (c .before .loop .inv) (c .loop-test .left)
@@ -121,12 +115,10 @@ visit-all-spec =
     visit-requires
     enum-told
     same-length
-    same-length-2
     returns
     enum-known-next
     add-s
     loop-less
     loop-again
-    same-length-3
-    same-length-4
+    same-length-2
     returns-2)

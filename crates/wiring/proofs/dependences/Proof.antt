@@ -1,4 +1,4 @@
-use mathlib.Core.Path.{_≡_, refl, _∙_}
+use mathlib.Core.Path.{_≡_, _∙_}
 use Prim.Native.Nat.{ℕ, _+_, _*_, _-_, _/_, _≤_, _<_}
 use lib.ListN.{length, getD}
 use Rattle.wiring.specs.Signals.{dependence}
@@ -19,7 +19,7 @@ abbrev μ-loop : tie.MeasureT-loop
 μ-loop table n ends channels deps₀ s₀ deps s = 2 * channels - s
 
 loop-holds : tie.Need-loop-holds Inv-loop μ-loop
-loop-holds c = (omega arith, refl, λ t j h. absurd (omega arith))
+loop-holds c = (omega arith, c .before .before .pre .4, λ t j h. absurd (omega arith))
 
 mul-loop : tie.Need-mul-loop Inv-loop μ-loop
 mul-loop c = search needs
@@ -60,7 +60,7 @@ loop-again c =
 returns : tie.Need-returns Inv-loop μ-loop
 returns c =
     let g = c .before .loop in
-    record { at = λ s j hs hj. g .inv .2 s j (omega arith) hj }
+    record { long = g .inv .1; at = λ s j hs hj. g .inv .2 s j (omega arith) hj }
 
 pub dependences-spec : {M : Type 1} → statement M
 dependences-spec =

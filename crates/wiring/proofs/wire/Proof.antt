@@ -1,4 +1,5 @@
 use Rattle.wiring.proofs.Sound.{wire-channel, wire-circle, wire-sound, sound-ends}
+use mathlib.Core.Path.{refl}
 use native.Mathlib.Omega.{arith}
 use borrow.Author.Needs.{needs}
 use Rattle.wiring.proofs.wire.Statement.{statement}
@@ -21,18 +22,19 @@ same-length c = search needs
 
 returns : tie.Need-returns
 returns c =
-    let s = c .before .before .before .before .before .before .before .before .before .before in
+    let m = c .before in
+    let f = m .before .before .before .before in
+    let s = f .before .before .before .before in
     let a = s .args in
-    wire-channel (a .table .now) (a .n) (a .channels) (s .pre .0 .few) (s .pre .1) _ (c .before .before .before .before .before .find-ends .ensures) _ (c .before .first-unmatched .ensures) (omega arith) _
+    wire-channel (a .table .now) (a .n) (a .channels) (s .pre .0 .few) (s .pre .1) _ (f .find-ends .ensures) _ (m .first-unmatched .ensures) (omega arith) _
 
 dependences-requires : tie.Need-dependences-requires
 dependences-requires c κs =
-    let s = c .before .before .before .before .before .before .before .before .before .before .before in
+    let m = c .before .before .before in
+    let f = m .before .before .before .before in
+    let s = f .before .before .before .before in
     let a = s .args in
-    (s .pre .0, s .pre .1, sound-ends (a .table .now) (a .n) (a .channels) (s .pre .0 .few) (s .pre .1) _ (c .before .before .before .before .before .before .find-ends .ensures) _ (c .before .before .first-unmatched .ensures) (omega arith), c .before .before .before .before .before .before .find-ends .ensures .long)
-
-slice-aggregate-order-of : tie.Need-slice-aggregate-order-of
-slice-aggregate-order-of c = search needs
+    (s .pre .0, s .pre .1, sound-ends (a .table .now) (a .n) (a .channels) (s .pre .0 .few) (s .pre .1) _ (f .find-ends .ensures) _ (m .first-unmatched .ensures) (omega arith), f .find-ends .ensures .long, refl)
 
 mul-order-of : tie.Need-mul-order-of
 mul-order-of c = search needs
@@ -43,26 +45,28 @@ order-of-requires c κs = search needs
 same-length-2 : tie.Need-same-length-2
 same-length-2 c = search needs
 
+returns-2 : tie.Need-returns-2
+returns-2 c =
+    let o = c .before in
+    let d = o .before .before .before in
+    let m = d .before .before .before .before in
+    let f = m .before .before .before .before in
+    let s = f .before .before .before .before in
+    let a = s .args in
+    wire-circle (a .table .now) (a .n) (a .channels) (s .pre .0 .few) (s .pre .1) _ (f .find-ends .ensures) _ (m .first-unmatched .ensures) (omega arith) _ _ (d .dependences .ensures) _ (o .order-of .ensures) (c .if2 .taken)
+
 same-length-3 : tie.Need-same-length-3
 same-length-3 c = search needs
 
-returns-2 : tie.Need-returns-2
-returns-2 c =
-    let s = c .before .before .before .before .before .before .before .before .before .before .before .before .before .before .before .before .before .before in
-    let a = s .args in
-    wire-circle (a .table .now) (a .n) (a .channels) (s .pre .0 .few) (s .pre .1) _ (c .before .before .before .before .before .before .before .before .before .before .before .before .before .find-ends .ensures) _ (c .before .before .before .before .before .before .before .before .before .first-unmatched .ensures) (omega arith) _ _ (c .before .before .before .before .before .before .dependences .ensures) _ (c .before .before .before .order-of .ensures) (c .if2 .taken)
-
-same-length-4 : tie.Need-same-length-4
-same-length-4 c = search needs
-
-same-length-5 : tie.Need-same-length-5
-same-length-5 c = search needs
-
 returns-3 : tie.Need-returns-3
 returns-3 c =
-    let s = c .before .before .before .before .before .before .before .before .before .before .before .before .before .before .before .before .before .before in
+    let o = c .before in
+    let d = o .before .before .before in
+    let m = d .before .before .before .before in
+    let f = m .before .before .before .before in
+    let s = f .before .before .before .before in
     let a = s .args in
-    wire-sound (a .table .now) (a .n) (a .channels) (s .pre .0 .few) (s .pre .1) _ (c .before .before .before .before .before .before .before .before .before .before .before .before .before .find-ends .ensures) _ (c .before .before .before .before .before .before .before .before .before .first-unmatched .ensures) (omega arith) _ _ (c .before .before .before .before .before .before .dependences .ensures) _ (c .before .before .before .order-of .ensures) (c .if2 .left)
+    wire-sound (a .table .now) (a .n) (a .channels) (s .pre .0 .few) (s .pre .1) _ (f .find-ends .ensures) _ (m .first-unmatched .ensures) (omega arith) _ _ (d .dependences .ensures) _ (o .order-of .ensures) (c .if2 .left)
 
 pub wire-spec : {M : Type 1} → statement M
 wire-spec =
@@ -73,12 +77,9 @@ wire-spec =
     same-length
     returns
     dependences-requires
-    slice-aggregate-order-of
     mul-order-of
     order-of-requires
     same-length-2
-    same-length-3
     returns-2
-    same-length-4
-    same-length-5
+    same-length-3
     returns-3)
