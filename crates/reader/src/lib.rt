@@ -185,7 +185,7 @@ fn read_table(
     channels: u8,
     components: u8,
     ends: &mut [u16],
-    order: &mut [u16],
+    order: &mut [u16; 510],
 ) -> Reading
     requires { ⌜ Unpacking colours channels components (now file) (now table) × Cleared (now ends) (now order) ⌝ }
     ensures { λ r. ⌜ TableRead colours channels components (now (file .entry)) (now (table .entry)) r (now (ends .exit)) (now (order .exit)) ⌝ }
@@ -201,7 +201,7 @@ fn read_table(
 
 // Reads a file: the refusals 1 to 8. Of an accepted one it lays down the rows, 1 + the end that gives each signal, and an order of
 // the signals.
-pub fn read(file: &[u8], table: &mut [u8], ends: &mut [u16], order: &mut [u16]) -> Reading
+pub fn read(file: &[u8], table: &mut [u8], ends: &mut [u16], order: &mut [u16; 510]) -> Reading
     requires { ⌜ (3072 ≤ length (now table)) × Cleared (now ends) (now order) ⌝ }
     ensures { λ r. ⌜ ReadOf (now (file .entry)) (now (table .entry)) (now (table .exit)) r (now (ends .exit)) (now (order .exit)) ⌝ }
 {

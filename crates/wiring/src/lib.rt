@@ -195,7 +195,13 @@ pub enum Wired {
 
 // Tests the ends of all channels and their signals' dependences. Of sound channels it lays down 1 + the end that gives each
 // signal, and the signals' order.
-pub fn wire(table: &[u8], n: usize, channels: usize, ends: &mut [u16], order: &mut [u16; 510]) -> Wired
+pub fn wire(
+    table: &[u8],
+    n: usize,
+    channels: usize,
+    ends: &mut [u16],
+    order: &mut [u16; 510],
+) -> Wired
     requires { ⌜ Kinds (now table) n × (channels ≤ 255) × (now ends ≡ replicate 513 0) × (510 ≤ length (now order)) ⌝ }
     ensures { λ r. ⌜ Wiring (now (table .entry)) n channels r (now (ends .exit)) (now (order .exit)) ⌝ }
 {

@@ -13,13 +13,13 @@ use Rattle.reader.proofs.read_table.Reads as read-table-reads
 use Rattle.record.proofs.put_rows.Reads as put-rows-reads
 
 returns : tie.Need-returns
-returns c = read-refused _ _ _ _ _ _ _ (is-short (c .before .before .before .before .before .args .file .now) (omega arith)) refl
+returns c = read-refused _ _ _ _ _ _ _ (is-short (c .before .before .before .before .args .file .now) (omega arith)) refl
 
 header-requires : tie.Need-header-requires
 header-requires c κs = search needs
 
 read-header-requires : tie.Need-read-header-requires
-read-header-requires c κs = rw (c .header .ensures) (colours-lt (c .before .before .before .before .before .before .args .file .now))
+read-header-requires c κs = rw (c .header .ensures) (colours-lt (c .before .before .before .before .before .args .file .now))
 
 enum-known-e : tie.Need-enum-known-e
 enum-known-e c = search needs
@@ -32,32 +32,42 @@ cast-n c = search needs
 
 put-rows-requires : tie.Need-put-rows-requires
 put-rows-requires c κs =
-    let f = c .before .before .before .before .before .before .before .before .before .before .before .args .file .now in
-    let w = header-few f (omega arith) _ _ _ (headed f (c .before .before .before .before .before .header .ensures) (c .before .before .before .before .read-header .ensures) (c .before .before .colours .given .1)) in
-    (omega (arith, w .3), omega (arith, w .0, c .before .before .before .before .before .before .before .before .before .before .before .pre .0))
+    let k = c .before .before in
+    let h = k .before .before .before in
+    let s = h .before .before .before .before .before in
+    let f = s .args .file .now in
+    let w = header-few f (omega arith) _ _ _ (headed f (h .header .ensures) (k .before .before .read-header .ensures) (k .colours .given .1)) in
+    (omega (arith, w .3), omega (arith, w .0, s .pre .0))
 
 mul-end : tie.Need-mul-end
 mul-end c = search needs
 
 slice-reshare-prefix-read-table : tie.Need-slice-reshare-prefix-read-table
 slice-reshare-prefix-read-table c =
-    let f = c .before .before .before .before .before .before .before .before .before .before .before .before .before .before .args .file .now in
-    let w = header-few f (omega arith) _ _ _ (headed f (c .before .before .before .before .before .before .before .before .header .ensures) (c .before .before .before .before .before .before .before .read-header .ensures) (c .before .before .before .before .before .colours .given .1)) in
-    omega (arith, w .0, c .before .before .before .before .before .before .before .before .before .before .before .before .before .before .pre .0, c .before .before .put-rows .kept .1 .1 .0)
+    let k = c .before .before .before .before .before in
+    let h = k .before .before .before in
+    let s = h .before .before .before .before .before in
+    let f = s .args .file .now in
+    let w = header-few f (omega arith) _ _ _ (headed f (h .header .ensures) (k .before .before .read-header .ensures) (k .colours .given .1)) in
+    omega (arith, w .0, s .pre .0, c .before .before .put-rows .kept .1 .1 .0)
 
 slice-aggregate-read-table : tie.Need-slice-aggregate-read-table
 slice-aggregate-read-table c = rows-front-long _ _ _ _ (c .before .before .before .put-rows .ensures)
 
 read-table-requires : tie.Need-read-table-requires
 read-table-requires c κs =
-    let f = c .before .before .before .before .before .before .before .before .before .before .before .before .before .before .before .before .before .args .file .now in
-    let w = header-few f (omega arith) _ _ _ (headed f (c .before .before .before .before .before .before .before .before .before .before .before .header .ensures) (c .before .before .before .before .before .before .before .before .before .before .read-header .ensures) (c .before .before .before .before .before .before .before .before .colours .given .1)) in
-    (record { few = w .0; fewColours = w .1; fewChannels = w .2; long = w .3; is = rows-front _ _ _ _ (c .before .before .before .before .before .put-rows .ensures) }, record { zeros = c .before .before .before .before .before .before .before .before .before .before .before .before .before .before .before .before .before .pre .1 .zeros; room = c .before .before .before .before .before .before .before .before .before .before .before .before .before .before .before .before .before .pre .1 .room })
+    let k = c .before .before .before .before .before .before .before .before in
+    let h = k .before .before .before in
+    let s = h .before .before .before .before .before in
+    let f = s .args .file .now in
+    let w = header-few f (omega arith) _ _ _ (headed f (h .header .ensures) (k .before .before .read-header .ensures) (k .colours .given .1)) in
+    (record { few = w .0; fewColours = w .1; fewChannels = w .2; long = w .3; is = rows-front _ _ _ _ (c .before .before .before .before .before .put-rows .ensures) }, record { zeros = s .pre .1 .zeros; room = s .pre .1 .room })
 
 returns-2 : tie.Need-returns-2
 returns-2 c =
-    let f = c .before .before .before .before .before .before .before .before .before .before .args .file .now in
-    read-refused _ _ _ _ _ _ _ (is-rejected f (omega arith) _ (headed f (c .before .before .before .before .header .ensures) (c .before .before .before .read-header .ensures) (c .before .e .given .1))) refl
+    let h = c .before .before .before .before in
+    let f = h .before .before .before .before .before .args .file .now in
+    read-refused _ _ _ _ _ _ _ (is-rejected f (omega arith) _ (headed f (h .header .ensures) (c .before .before .before .read-header .ensures) (c .before .e .given .1))) refl
 
 same-length : tie.Need-same-length
 same-length c = search needs
@@ -65,14 +75,13 @@ same-length c = search needs
 same-length-2 : tie.Need-same-length-2
 same-length-2 c = search needs
 
-same-length-3 : tie.Need-same-length-3
-same-length-3 c = search needs
-
 returns-3 : tie.Need-returns-3
 returns-3 c =
-    let f = c .before .before .before .before .before .before .before .before .before .before .before .before .before .before .before .before .before .before .before .before .before .before .args .file .now in
-    let rows = c .before .before .before .before .before .before .before .before .before .before .put-rows .ensures in
-    read-done f (omega arith) _ _ _ (headed f (c .before .before .before .before .before .before .before .before .before .before .before .before .before .before .before .before .header .ensures) (c .before .before .before .before .before .before .before .before .before .before .before .before .before .before .before .read-header .ensures) (c .before .before .before .before .before .before .before .before .before .before .before .before .before .colours .given .1)) _ _ _ _ _ _ rows (rows-front _ _ _ _ rows) (c .before .before .before .before .read-table .ensures)
+    let r = c .before .before .before .before .before .before .before .before .put-rows .ensures in
+    let k = c .before .before .before .before .before .before .before .before .before .before .before in
+    let h = k .before .before .before in
+    let f = h .before .before .before .before .before .args .file .now in
+    read-done f (omega arith) _ _ _ (headed f (h .header .ensures) (k .before .before .read-header .ensures) (k .colours .given .1)) _ _ _ _ _ _ r (rows-front _ _ _ _ r) (c .before .before .read-table .ensures)
 
 pub read-spec : {M : Type 1} → statement M
 read-spec =
@@ -92,5 +101,4 @@ read-spec =
     returns-2
     same-length
     same-length-2
-    same-length-3
     returns-3)

@@ -13,7 +13,7 @@ use Rattle.wiring.proofs.wire.Reads as wire-reads
 
 first-bad-record-requires : tie.Need-first-bad-record-requires
 first-bad-record-requires c κs =
-    let p = c .before .before .before .before .pre .0 in
+    let p = c .before .before .before .pre .0 in
     (omega (arith, p .long), rows-room _ _ _ _ _ p, p .fewColours)
 
 returns : tie.Need-returns
@@ -21,7 +21,7 @@ returns c = table-field _ _ _ _ _ _ (c .before .first-bad-record .ensures) _ _ _
 
 wire-requires : tie.Need-wire-requires
 wire-requires c κs =
-    let s = c .before .before .before .before .before .before .before .before in
+    let s = c .before .before .before .before .before .before .before in
     let p = s .pre .0 in
     let k = table-kinds (s .args .colours) (s .args .channels) (s .args .components) (s .args .file .now) (s .args .table .now) (p .few) (rows-long _ _ _ _ _ p) (rw (← c .before .before .before .first-bad-record .ensures) (omega arith)) in
     (k, p .fewChannels, s .pre .1 .zeros, s .pre .1 .room)
@@ -35,11 +35,8 @@ read-as-requires c κs = search needs
 same-length : tie.Need-same-length
 same-length c = search needs
 
-same-length-2 : tie.Need-same-length-2
-same-length-2 c = search needs
-
 returns-2 : tie.Need-returns-2
-returns-2 c = table-wired _ _ _ _ _ _ (c .before .before .before .before .before .before .before .before .before .before .first-bad-record .ensures) _ _ _ (omega arith) _ _ (c .before .before .before .before .before .before .wire .ensures) (c .before .wired-verdict .ensures) (c .read-as .ensures)
+returns-2 c = table-wired _ _ _ _ _ _ (c .before .before .before .before .before .before .before .before .first-bad-record .ensures) _ _ _ (omega arith) _ _ (c .before .before .before .before .wire .ensures) (c .before .wired-verdict .ensures) (c .read-as .ensures)
 
 pub read-table-spec : {M : Type 1} → statement M
 read-table-spec =
@@ -51,5 +48,4 @@ read-table-spec =
     wired-verdict-requires
     read-as-requires
     same-length
-    same-length-2
     returns-2)
