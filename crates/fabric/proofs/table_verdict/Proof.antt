@@ -19,9 +19,6 @@ returns c = is-field _ _ _ _ _ (c .before .first-bad-row .ensures) (omega arith)
 slice-aggregate-wire : tie.Need-slice-aggregate-wire
 slice-aggregate-wire c = search needs
 
-slice-aggregate-wire-2 : tie.Need-slice-aggregate-wire-2
-slice-aggregate-wire-2 c = search needs
-
 wire-requires : tie.Need-wire-requires
 wire-requires c κs =
     let s = c .before .before .before .before .before in
@@ -32,7 +29,7 @@ wired-verdict-requires : tie.Need-wired-verdict-requires
 wired-verdict-requires c κs = search needs
 
 returns-2 : tie.Need-returns-2
-returns-2 c = is-wired _ _ _ _ _ (c .before .before .before .before .before .before .before .first-bad-row .ensures) (omega arith) _ _ _ _ (c .before .before .before .wire .ensures) (c .wired-verdict .ensures)
+returns-2 c = is-wired _ _ _ _ _ (c .before .before .before .before .before .before .first-bad-row .ensures) (omega arith) _ _ _ _ (c .before .before .wire .ensures) (c .wired-verdict .ensures)
 
 pub table-verdict-spec : {M : Type 1} → statement M
 table-verdict-spec =
@@ -41,7 +38,6 @@ table-verdict-spec =
     first-bad-row-requires
     returns
     slice-aggregate-wire
-    slice-aggregate-wire-2
     wire-requires
     wired-verdict-requires
     returns-2)

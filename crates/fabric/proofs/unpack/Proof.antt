@@ -18,9 +18,6 @@ slice-aggregate-read c = search needs
 slice-aggregate-read-2 : tie.Need-slice-aggregate-read-2
 slice-aggregate-read-2 c = search needs
 
-slice-aggregate-read-3 : tie.Need-slice-aggregate-read-3
-slice-aggregate-read-3 c = search needs
-
 read-requires : tie.Need-read-requires
 read-requires c κs = search needs
 
@@ -44,16 +41,16 @@ mul-copy c = search needs
 
 copy-requires : tie.Need-copy-requires
 copy-requires c κs =
-    let f = c .before .before .before .before .before .before .before .before .before .before .before .before .before .before .before .args .file .now in
-    let r = unpacked-accepted f _ (sym (unpack-is f _ _ _ (c .before .before .before .before .before .before .before .before .before .read .ensures .is) (c .before .before .before .before .before .with-room .ensures)) ∙ c .before .before .before .colours .given .1) in
+    let f = c .before .before .before .before .before .before .before .before .before .before .before .before .before .before .args .file .now in
+    let r = unpacked-accepted f _ (sym (unpack-is f _ _ _ (c .before .before .before .before .before .before .before .before .read .ensures .is) (c .before .before .before .before .before .with-room .ensures)) ∙ c .before .before .before .colours .given .1) in
     let l = accepted-long f (r .0) in
-    (omega (arith, l .1, c .before .before .before .before .before .before .before .before .before .read .kept .1 .0), omega (arith, r .1))
+    (omega (arith, l .1, c .before .before .before .before .before .before .before .before .read .kept .1 .0), omega (arith, r .1))
 
 returns : tie.Need-returns
 returns c =
-    let a = c .before .before .before .before .before .before .before .before .before .before .before .before .before .args in
+    let a = c .before .before .before .before .before .before .before .before .before .before .before .before .args in
     let f = a .file .now in
-    let e = sym (c .before .e .given .1) ∙ unpack-is f _ _ _ (c .before .before .before .before .before .before .before .read .ensures .is) (c .before .before .before .with-room .ensures) in
+    let e = sym (c .before .e .given .1) ∙ unpack-is f _ _ _ (c .before .before .before .before .before .before .read .ensures .is) (c .before .before .before .with-room .ensures) in
     (e, table-of f (a .table .now) _ e)
 
 same-length : tie.Need-same-length
@@ -61,9 +58,9 @@ same-length c = search needs
 
 returns-2 : tie.Need-returns-2
 returns-2 c =
-    let a = c .before .before .before .before .before .before .before .before .before .before .before .before .before .before .before .before .before .before .args in
+    let a = c .before .before .before .before .before .before .before .before .before .before .before .before .before .before .before .before .before .args in
     let f = a .file .now in
-    let read = c .before .before .before .before .before .before .before .before .before .before .before .before .read .ensures in
+    let read = c .before .before .before .before .before .before .before .before .before .before .before .read .ensures in
     let e = sym (c .before .before .before .before .before .before .colours .given .1) ∙ unpack-is f _ _ _ (read .is) (c .before .before .before .before .before .before .before .before .with-room .ensures) in
     let r = unpacked-accepted f _ (sym e) in
     (e, table-copied f _ (a .table .now) _ _ (rows-front f _ _ _ (read .table _ _ _ (r .0))) (c .before .before .copy .ensures) ∙ table-of f (a .table .now) _ e)
@@ -74,7 +71,6 @@ unpack-spec =
     (tie.spec
     slice-aggregate-read
     slice-aggregate-read-2
-    slice-aggregate-read-3
     read-requires
     with-room-requires
     enum-known-e
