@@ -44,8 +44,8 @@ module _ (f : Netlist) (ends order : List ℕ) (a : AcceptedFabric f ends order)
   pub steps-met : Steps f ends order (started f state) choices
   steps-met = record { accepted = a; good = good-start f ends order a state room; allowed = no-bad-choice f choices long none }
 
-  pub ready-met : 2 * f .channels ≤ length order → Ready f ends order (started f state) choices
-  ready-met l = steps-ready f ends order (started f state) choices steps-met l
+  pub ready-met : Ready f ends order (started f state) choices
+  ready-met = steps-ready f ends order (started f state) choices steps-met
 
   pub updatable-met : Updatable (f .table) (f .components) (started f state) choices (moves f (started f state) choices ++ [])
   updatable-met = updatable f ends order (started f state) choices steps-met []

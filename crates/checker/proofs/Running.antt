@@ -134,12 +134,11 @@ module _ (file state choices : List ℕ) where
         sym (rest-judged file (o .reads) (readyTests (netlistIn file) state choices (not (eqb (length choices % netlistIn file .components) 0)))
         ∙ ap (λ (g : Netlist). firstRefusal (readyTests g state choices (not (eqb (length choices % g .components) 0)))) (o .same))
 
-    pub run-given : firstRefusal (readyTests f state choices (not (eqb (length choices % N) 0))) ≡ Accepted → 2 * M ≤ length order → Runs f ends order state choices
-    run-given e l =
+    pub run-given : firstRefusal (readyTests f state choices (not (eqb (length choices % N) 0))) ≡ Accepted → Runs f ends order state choices
+    run-given e =
         let r = ready-facts f state choices (not (eqb (length choices % N) 0)) e in
         record {
           accepted = o .facts;
-          orders = l;
           good = r .good;
           whole = eqb-true _ _ (not-false _ (r .even));
           allowed = r .allowed;

@@ -27,7 +27,6 @@ readyTests f state choices uneven = shortState f (length state) ∷ badState f s
 -- an accepted fabric, a good state, and whole steps' choices, all allowed
 pub record Runs (f : Netlist) (ends order state choices : List ℕ) : Type 0 where
   pub accepted : AcceptedFabric f ends order
-  pub orders : 2 * f .channels ≤ length order
   pub good : Good f state
   pub whole : length choices % f .components ≡ 0
   pub allowed : badChoice f choices ≡ length choices

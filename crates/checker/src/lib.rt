@@ -92,13 +92,13 @@ fn take_step(
     table: &[u8],
     ends: &[u16],
     size: Size,
-    order: &[u16],
+    order: &[u16; 510],
     state: &mut [u8],
     choices: &[u8],
     moves: &mut [u8],
 )
     requires { ⌜ Steps (netlist (size .colours) (size .channels) (size .components) (now table)) (now ends) (now order) (now state) (now choices)
-        × (2 * size .channels ≤ length (now order)) × (size .channels ≤ length (now moves)) ⌝ }
+        × (size .channels ≤ length (now moves)) ⌝ }
     ensures { λ _. ⌜ (now (state .exit) ≡ next (netlist (size .colours) (size .channels) (size .components) (now (table .entry))) (now (state .entry)) (now (choices .entry)))
         × (now (moves .exit) ≡ signals.moves (netlist (size .colours) (size .channels) (size .components) (now (table .entry))) (now (state .entry)) (now (choices .entry))
         ++ drop (size .channels) (now (moves .entry))) ⌝ }
@@ -187,7 +187,7 @@ fn run_steps(
     table: &[u8],
     ends: &[u16],
     size: Size,
-    order: &[u16],
+    order: &[u16; 510],
     state: &mut [u8],
     choices: &[u8],
 )

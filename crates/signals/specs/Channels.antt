@@ -32,12 +32,11 @@ pub record Valued (f : Netlist) (state choices : List ℕ) (chs : List Channel) 
   pub long : length chs ≡ 256
   pub values : (s : ℕ) → s < 2 * f .channels → valueIn chs s ≡ value f state choices s
 
--- An accepted fabric with its state and choices. The reader establishes `accepted` and `orders`; `states` and `chosen` hold once a call
+-- An accepted fabric with its state and choices. The reader establishes `accepted`; `states` and `chosen` hold once a call
 -- is not refused by 21 and 9; `small` holds in every good state under allowed choices, where no signal is above the
 -- count of colours.
 pub record Ready (f : Netlist) (ends order state choices : List ℕ) : Type 0 where
   pub accepted : AcceptedFabric f ends order
-  pub orders : 2 * f .channels ≤ length order
   pub states : 64 * f .components ≤ length state
   pub chosen : length choices ≡ f .components
   pub small : (s : ℕ) → s < 2 * f .channels → value f state choices s ≤ 8

@@ -72,7 +72,7 @@ pub fn evaluate(
     table: &[u8],
     ends: &[u16],
     size: Size,
-    order: &[u16],
+    order: &[u16; 510],
     state: &[u8],
     choices: &[u8],
     moves: &mut [u8],

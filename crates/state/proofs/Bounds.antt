@@ -113,10 +113,9 @@ module _ (f : Netlist) (ends order state choices : List ℕ) (t : Steps f ends o
   moved-le x l = when-le (value f state choices (2 * x + 1)) (value f state choices (2 * x)) (f .colours) (value-le (2 * x) (omega arith))
 
   -- what the signals are worked out from
-  pub steps-ready : 2 * f .channels ≤ length order → Ready f ends order state choices
-  steps-ready o = record {
+  pub steps-ready : Ready f ends order state choices
+  steps-ready = record {
     accepted = t .accepted;
-    orders = o;
     states = t .good .long;
     chosen = t .allowed .long;
     small = λ s h. omega (arith, value-le s h, t .accepted .fewColours);

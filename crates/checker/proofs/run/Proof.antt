@@ -77,7 +77,7 @@ run-steps-requires : tie.Need-run-steps-requires
 run-steps-requires c κs =
     let a = c .before .before .before .before .before .before .before .before .before .before .before .before .before .before .before .before .before .before .before .before .before .before .args in
     let o = opened (c .before .before .before .before .before .before .before .before .before .before .before .before .before .before .before .read .ensures) (c .before .before .before .before .before .before .before .before .before .before .colours .given .1) in
-    run-given (a .file .now) (a .state .now) (a .choices .now) o (sym (c .before .before .before .before .before .before .ready .ensures) ∙ c .before .before .before .before .enum-told .given .1) (omega (arith, o .facts .fewChannels, c .before .before .before .before .before .before .before .before .before .before .before .before .before .before .before .read .kept .1 .1 .1 .0))
+    run-given (a .file .now) (a .state .now) (a .choices .now) o (sym (c .before .before .before .before .before .before .ready .ensures) ∙ c .before .before .before .before .enum-told .given .1)
 
 returns : tie.Need-returns
 returns c =

@@ -45,7 +45,7 @@ take-step-requires c κs =
     let l = c .before .before .before .before .loop in
     let n = s .args .size .components in
     let w : l .at + n - l .at ≡ n = omega arith in
-    (rw w (run-ready (s .pre) (l .inv .0) (c .before .before .before .loop-test .taken)), s .pre .orders, omega (arith, s .pre .accepted .fewChannels, l .inv .1))
+    (rw w (run-ready (s .pre) (l .inv .0) (c .before .before .before .loop-test .taken)), omega (arith, s .pre .accepted .fewChannels, l .inv .1))
 
 add-j : tie.Need-add-j Inv-loop μ-loop
 add-j c =

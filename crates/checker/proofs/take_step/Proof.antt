@@ -15,7 +15,7 @@ evaluate-requires : tie.Need-evaluate-requires
 evaluate-requires c κs =
     let s = c .before .before .before .before .before .before .before .before in
     let a = s .args in
-    (steps-ready (netlist (a .size .colours) (a .size .channels) (a .size .components) (a .table .now)) (a .ends .now) (a .order .now) (a .state .now) (a .choices .now) (s .pre .0) (s .pre .1), s .pre .2)
+    (steps-ready (netlist (a .size .colours) (a .size .channels) (a .size .components) (a .table .now)) (a .ends .now) (a .order .now) (a .state .now) (a .choices .now) (s .pre .0), s .pre .1)
 
 slice-reshare-prefix-update : tie.Need-slice-reshare-prefix-update
 slice-reshare-prefix-update c = search needs

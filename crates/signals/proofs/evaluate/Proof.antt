@@ -54,41 +54,41 @@ abbrev μ-loop2 : tie.MeasureT-loop2
 μ-loop2 table ends size order state choices moves₀ chs i x₀ moves x = size .channels - x
 
 -- the signal at hand, the end that gives it, and its component
-signal : (c : tie.After-wide Inv-loop μ-loop Inv-loop2 μ-loop2) → c .wide .result < 2 * c .before .before .before .before .before .before .before .before .before .before .before .args .size .channels
-signal c = rw (c .wide .ensures) (next-below (c .before .before .before .before .before .before .before .before .before .before .before .pre .0 .accepted) (c .before .before .before .before .loop .inv) (c .before .before .if1 .taken))
+signal : (c : tie.After-wide Inv-loop μ-loop Inv-loop2 μ-loop2) → c .wide .result < 2 * c .before .before .before .before .before .before .before .before .before .before .args .size .channels
+signal c = rw (c .wide .ensures) (next-below (c .before .before .before .before .before .before .before .before .before .before .pre .0 .accepted) (c .before .before .before .before .loop .inv) (c .before .before .if1 .taken))
 
 short : (c : tie.After-wide Inv-loop μ-loop Inv-loop2 μ-loop2) → c .wide .result < 510
-short c = omega (arith, signal c, c .before .before .before .before .before .before .before .before .before .before .before .pre .0 .accepted .fewChannels)
+short c = omega (arith, signal c, c .before .before .before .before .before .before .before .before .before .before .pre .0 .accepted .fewChannels)
 
-giver : (c : tie.After-end-before Inv-loop μ-loop Inv-loop2 μ-loop2) → c .end-before .result ≡ endOf (c .before .before .before .before .before .before .before .before .before .before .before .before .before .args .table .now) (c .before .before .before .before .before .before .before .before .before .before .before .before .before .args .size .components) (c .before .before .wide .result)
-giver c = noted (c .before .before .before .before .before .before .before .before .before .before .before .before .before .pre .0 .accepted) (c .before .before .wide .result) (c .end-before .result) (signal (c .before .before)) (c .end-before .ensures)
+giver : (c : tie.After-end-before Inv-loop μ-loop Inv-loop2 μ-loop2) → c .end-before .result ≡ endOf (c .before .before .before .before .before .before .before .before .before .before .before .before .args .table .now) (c .before .before .before .before .before .before .before .before .before .before .before .before .args .size .components) (c .before .before .wide .result)
+giver c = noted (c .before .before .before .before .before .before .before .before .before .before .before .before .pre .0 .accepted) (c .before .before .wide .result) (c .end-before .result) (signal (c .before .before)) (c .end-before .ensures)
 
-known : (c : tie.After-end-before Inv-loop μ-loop Inv-loop2 μ-loop2) → c .end-before .result / 3 < c .before .before .before .before .before .before .before .before .before .before .before .before .before .args .size .components
-known c = owner (c .before .before .before .before .before .before .before .before .before .before .before .before .before .pre .0 .accepted) (c .before .before .wide .result) (c .end-before .result) (signal (c .before .before)) (giver c)
+known : (c : tie.After-end-before Inv-loop μ-loop Inv-loop2 μ-loop2) → c .end-before .result / 3 < c .before .before .before .before .before .before .before .before .before .before .before .before .args .size .components
+known c = owner (c .before .before .before .before .before .before .before .before .before .before .before .before .pre .0 .accepted) (c .before .before .wide .result) (c .end-before .result) (signal (c .before .before)) (giver c)
 
 -- its row, its bytes and its choice are there
-fits : (c : tie.After-end-before Inv-loop μ-loop Inv-loop2 μ-loop2) → (c .end-before .result / 3 < 128) × (24 * (c .end-before .result / 3) + 24 ≤ length (c .before .before .before .before .before .before .before .before .before .before .before .before .before .args .table .now)) × (64 * (c .end-before .result / 3) + 64 ≤ length (c .before .before .before .before .before .before .before .before .before .before .before .before .before .args .state .now)) × (c .end-before .result / 3 < length (c .before .before .before .before .before .before .before .before .before .before .before .before .before .args .choices .now))
+fits : (c : tie.After-end-before Inv-loop μ-loop Inv-loop2 μ-loop2) → (c .end-before .result / 3 < 128) × (24 * (c .end-before .result / 3) + 24 ≤ length (c .before .before .before .before .before .before .before .before .before .before .before .before .args .table .now)) × (64 * (c .end-before .result / 3) + 64 ≤ length (c .before .before .before .before .before .before .before .before .before .before .before .before .args .state .now)) × (c .end-before .result / 3 < length (c .before .before .before .before .before .before .before .before .before .before .before .before .args .choices .now))
 fits c =
     let k = known c in
-    let p = c .before .before .before .before .before .before .before .before .before .before .before .before .before .pre .0 in
+    let p = c .before .before .before .before .before .before .before .before .before .before .before .before .pre .0 in
     (omega (arith, p .accepted .fewRows), omega (arith, p .accepted .long), omega (arith, p .states), omega (arith, p .chosen))
 
-row-long : (c : tie.After-end-before Inv-loop μ-loop Inv-loop2 μ-loop2) → length (take (24 * (c .end-before .result / 3) + 24 - 24 * (c .end-before .result / 3)) (drop (24 * (c .end-before .result / 3)) (c .before .before .before .before .before .before .before .before .before .before .before .before .before .args .table .now))) ≡ 24
-row-long c = part-long 24 (24 * (c .end-before .result / 3)) (c .before .before .before .before .before .before .before .before .before .before .before .before .before .args .table .now) (fits c .1)
+row-long : (c : tie.After-end-before Inv-loop μ-loop Inv-loop2 μ-loop2) → length (take (24 * (c .end-before .result / 3) + 24 - 24 * (c .end-before .result / 3)) (drop (24 * (c .end-before .result / 3)) (c .before .before .before .before .before .before .before .before .before .before .before .before .args .table .now))) ≡ 24
+row-long c = part-long 24 (24 * (c .end-before .result / 3)) (c .before .before .before .before .before .before .before .before .before .before .before .before .args .table .now) (fits c .1)
 
-cell-long : (c : tie.After-end-before Inv-loop μ-loop Inv-loop2 μ-loop2) → length (take (64 * (c .end-before .result / 3) + 64 - 64 * (c .end-before .result / 3)) (drop (64 * (c .end-before .result / 3)) (c .before .before .before .before .before .before .before .before .before .before .before .before .before .args .state .now))) ≡ 64
-cell-long c = part-long 64 (64 * (c .end-before .result / 3)) (c .before .before .before .before .before .before .before .before .before .before .before .before .before .args .state .now) (fits c .2)
+cell-long : (c : tie.After-end-before Inv-loop μ-loop Inv-loop2 μ-loop2) → length (take (64 * (c .end-before .result / 3) + 64 - 64 * (c .end-before .result / 3)) (drop (64 * (c .end-before .result / 3)) (c .before .before .before .before .before .before .before .before .before .before .before .before .args .state .now))) ≡ 64
+cell-long c = part-long 64 (64 * (c .end-before .result / 3)) (c .before .before .before .before .before .before .before .before .before .before .before .before .args .state .now) (fits c .2)
 
 -- what the code works out at an output port, and at an input port
 offered : (c : tie.At-match-came Inv-loop μ-loop Inv-loop2 μ-loop2) →
-    Offers (kind (row (c .before .before .before .before .before .before .before .before .before .before .before .before .before .before .before .before .before .before .before .before .args .table .now) (c .before .before .before .before .before .before .before .end-before .result / 3))) (c .before .before .before .before .before .before .before .end-before .result % 3)
-    (component (row (c .before .before .before .before .before .before .before .before .before .before .before .before .before .before .before .before .before .before .before .before .args .table .now) (c .before .before .before .before .before .before .before .end-before .result / 3)) (cell (c .before .before .before .before .before .before .before .before .before .before .before .before .before .before .before .before .before .before .before .before .args .state .now) (c .before .before .before .before .before .before .before .end-before .result / 3)) (getD (c .before .before .before .before .before .before .before .before .before .before .before .before .before .before .before .before .before .before .before .before .args .choices .now) (c .before .before .before .before .before .before .before .end-before .result / 3) 0)) (seenOf (getD (c .before .before .before .before .before .before .before .before .before .before .before .before .before .loop .chs) (c .before .before .before .before .before .before .ports-of .result .a) none) (getD (c .before .before .before .before .before .before .before .before .before .before .before .before .before .loop .chs) (c .before .before .before .before .before .before .ports-of .result .b) none) (getD (c .before .before .before .before .before .before .before .before .before .before .before .before .before .loop .chs) (c .before .before .before .before .before .before .ports-of .result .c) none)) (numberOf (c .match .o))
+    Offers (kind (row (c .before .before .before .before .before .before .before .before .before .before .before .before .before .before .before .before .before .before .before .args .table .now) (c .before .before .before .before .before .before .before .end-before .result / 3))) (c .before .before .before .before .before .before .before .end-before .result % 3)
+    (component (row (c .before .before .before .before .before .before .before .before .before .before .before .before .before .before .before .before .before .before .before .args .table .now) (c .before .before .before .before .before .before .before .end-before .result / 3)) (cell (c .before .before .before .before .before .before .before .before .before .before .before .before .before .before .before .before .before .before .before .args .state .now) (c .before .before .before .before .before .before .before .end-before .result / 3)) (getD (c .before .before .before .before .before .before .before .before .before .before .before .before .before .before .before .before .before .before .before .args .choices .now) (c .before .before .before .before .before .before .before .end-before .result / 3) 0)) (seenOf (getD (c .before .before .before .before .before .before .before .before .before .before .before .before .before .loop .chs) (c .before .before .before .before .before .before .ports-of .result .a) none) (getD (c .before .before .before .before .before .before .before .before .before .before .before .before .before .loop .chs) (c .before .before .before .before .before .before .ports-of .result .b) none) (getD (c .before .before .before .before .before .before .before .before .before .before .before .before .before .loop .chs) (c .before .before .before .before .before .before .ports-of .result .c) none)) (numberOf (c .match .o))
 offered c =
-    let t = c .before .before .before .before .before .before .before .before .before .before .before .before .before .before .before .before .before .before .before .before .args .table .now in
-    let s = c .before .before .before .before .before .before .before .before .before .before .before .before .before .before .before .before .before .before .before .before .args .state .now in
+    let t = c .before .before .before .before .before .before .before .before .before .before .before .before .before .before .before .before .before .before .before .args .table .now in
+    let s = c .before .before .before .before .before .before .before .before .before .before .before .before .before .before .before .before .before .before .before .args .state .now in
     let k = c .before .before .before .before .before .before .before .end-before .result / 3 in
     let p = c .before .before .before .before .before .before .before .end-before .result % 3 in
-    let y = getD (c .before .before .before .before .before .before .before .before .before .before .before .before .before .before .before .before .before .before .before .before .args .choices .now) k 0 in
+    let y = getD (c .before .before .before .before .before .before .before .before .before .before .before .before .before .before .before .before .before .before .before .args .choices .now) k 0 in
     let R = take (24 * k + 24 - 24 * k) (drop (24 * k) t) in
     let S = take (64 * k + 64 - 64 * k) (drop (64 * k) s) in
     let a = getD (c .before .before .before .before .before .before .before .before .before .before .before .before .before .loop .chs) (c .before .before .before .before .before .before .ports-of .result .a) none in
@@ -98,14 +98,14 @@ offered c =
     (⊎-elim (λ w. rw (w .2) (source-offer R S y p a b d _ (w .0 .keys1) (w .1 .ensures))) (⊎-elim (λ w. rw (w .1) (sink-offer R S y p a b d _ (w .0 .keys2))) (⊎-elim (λ w. rw (w .2) (queue-offer R S y p a b d _ (w .0 .keys3) (w .1 .ensures))) (⊎-elim (λ w. rw (w .3) (function-offer R S y p a b d _ (w .0 .keys4) (w .2 .ensures))) (⊎-elim (λ w. rw (w .5) (fork-offer R S y p a b d _ (w .0 .keys5) (w .4 .ensures))) (⊎-elim (λ w. rw (w .4) (join-offer R S y p a b d _ (w .0 .keys6) (w .3 .ensures))) (⊎-elim (λ w. rw (w .3) (switch-offer R S y p a b d _ (w .0 .keys7) (w .2 .ensures))) (λ w. rw (w .4) (merge-offer R S y p a b d _ (w .0 .rest .0 .0 .0 .0 .0 .0 .1, w .0 .rest .0 .0 .0 .0 .0 .1, w .0 .rest .0 .0 .0 .0 .1, w .0 .rest .0 .0 .0 .1, w .0 .rest .0 .0 .1, w .0 .rest .0 .1, w .0 .rest .1) (w .3 .ensures))))))))) (c .match .came))
 
 taken : (c : tie.At-match2-came Inv-loop μ-loop Inv-loop2 μ-loop2) →
-    Takes (kind (row (c .before .before .before .before .before .before .before .before .before .before .before .before .before .before .before .before .before .before .before .before .args .table .now) (c .before .before .before .before .before .before .before .end-before .result / 3))) (c .before .before .before .before .before .before .before .end-before .result % 3)
-    (component (row (c .before .before .before .before .before .before .before .before .before .before .before .before .before .before .before .before .before .before .before .before .args .table .now) (c .before .before .before .before .before .before .before .end-before .result / 3)) (cell (c .before .before .before .before .before .before .before .before .before .before .before .before .before .before .before .before .before .before .before .before .args .state .now) (c .before .before .before .before .before .before .before .end-before .result / 3)) (getD (c .before .before .before .before .before .before .before .before .before .before .before .before .before .before .before .before .before .before .before .before .args .choices .now) (c .before .before .before .before .before .before .before .end-before .result / 3) 0)) (seenOf (getD (c .before .before .before .before .before .before .before .before .before .before .before .before .before .loop .chs) (c .before .before .before .before .before .before .ports-of .result .a) none) (getD (c .before .before .before .before .before .before .before .before .before .before .before .before .before .loop .chs) (c .before .before .before .before .before .before .ports-of .result .b) none) (getD (c .before .before .before .before .before .before .before .before .before .before .before .before .before .loop .chs) (c .before .before .before .before .before .before .ports-of .result .c) none)) (bit (c .match2 .t))
+    Takes (kind (row (c .before .before .before .before .before .before .before .before .before .before .before .before .before .before .before .before .before .before .before .args .table .now) (c .before .before .before .before .before .before .before .end-before .result / 3))) (c .before .before .before .before .before .before .before .end-before .result % 3)
+    (component (row (c .before .before .before .before .before .before .before .before .before .before .before .before .before .before .before .before .before .before .before .args .table .now) (c .before .before .before .before .before .before .before .end-before .result / 3)) (cell (c .before .before .before .before .before .before .before .before .before .before .before .before .before .before .before .before .before .before .before .args .state .now) (c .before .before .before .before .before .before .before .end-before .result / 3)) (getD (c .before .before .before .before .before .before .before .before .before .before .before .before .before .before .before .before .before .before .before .args .choices .now) (c .before .before .before .before .before .before .before .end-before .result / 3) 0)) (seenOf (getD (c .before .before .before .before .before .before .before .before .before .before .before .before .before .loop .chs) (c .before .before .before .before .before .before .ports-of .result .a) none) (getD (c .before .before .before .before .before .before .before .before .before .before .before .before .before .loop .chs) (c .before .before .before .before .before .before .ports-of .result .b) none) (getD (c .before .before .before .before .before .before .before .before .before .before .before .before .before .loop .chs) (c .before .before .before .before .before .before .ports-of .result .c) none)) (bit (c .match2 .t))
 taken c =
-    let t = c .before .before .before .before .before .before .before .before .before .before .before .before .before .before .before .before .before .before .before .before .args .table .now in
-    let s = c .before .before .before .before .before .before .before .before .before .before .before .before .before .before .before .before .before .before .before .before .args .state .now in
+    let t = c .before .before .before .before .before .before .before .before .before .before .before .before .before .before .before .before .before .before .before .args .table .now in
+    let s = c .before .before .before .before .before .before .before .before .before .before .before .before .before .before .before .before .before .before .before .args .state .now in
     let k = c .before .before .before .before .before .before .before .end-before .result / 3 in
     let p = c .before .before .before .before .before .before .before .end-before .result % 3 in
-    let y = getD (c .before .before .before .before .before .before .before .before .before .before .before .before .before .before .before .before .before .before .before .before .args .choices .now) k 0 in
+    let y = getD (c .before .before .before .before .before .before .before .before .before .before .before .before .before .before .before .before .before .before .before .args .choices .now) k 0 in
     let R = take (24 * k + 24 - 24 * k) (drop (24 * k) t) in
     let S = take (64 * k + 64 - 64 * k) (drop (64 * k) s) in
     let a = getD (c .before .before .before .before .before .before .before .before .before .before .before .before .before .loop .chs) (c .before .before .before .before .before .before .ports-of .result .a) none in
@@ -118,13 +118,13 @@ loop-holds : tie.Need-loop-holds Inv-loop μ-loop Inv-loop2 μ-loop2
 loop-holds c = record { few = omega arith; long = refl; found = λ j h. absurd (omega arith) }
 
 mul-if1 : tie.Need-mul-if1 Inv-loop μ-loop Inv-loop2 μ-loop2
-mul-if1 c = omega (arith, c .before .before .before .before .before .before .before .before .pre .0 .accepted .fewChannels)
+mul-if1 c = omega (arith, c .before .before .before .before .before .before .before .pre .0 .accepted .fewChannels)
 
 mul-wide : tie.Need-mul-wide Inv-loop μ-loop Inv-loop2 μ-loop2
-mul-wide c = omega (arith, c .before .before .before .before .before .before .before .before .before .pre .0 .accepted .fewChannels)
+mul-wide c = omega (arith, c .before .before .before .before .before .before .before .before .pre .0 .accepted .fewChannels)
 
-shared-slice-read-wide : tie.Need-shared-slice-read-wide Inv-loop μ-loop Inv-loop2 μ-loop2
-shared-slice-read-wide c = omega (arith, c .before .if1 .taken, c .before .before .before .before .before .before .before .before .before .before .pre .0 .orders)
+element-copy-out-wide : tie.Need-element-copy-out-wide Inv-loop μ-loop Inv-loop2 μ-loop2
+element-copy-out-wide c = omega (arith, c .if1 .taken, c .before .before .before .before .before .before .before .before .pre .0 .accepted .fewChannels)
 
 wide-requires : tie.Need-wide-requires Inv-loop μ-loop Inv-loop2 μ-loop2
 wide-requires c κs = search needs
@@ -134,10 +134,10 @@ mul-end-before c = omega (arith, short c)
 
 shared-slice-read-end-before :
     tie.Need-shared-slice-read-end-before Inv-loop μ-loop Inv-loop2 μ-loop2
-shared-slice-read-end-before c = ends-long (c .before .before .before .before .before .before .before .before .before .before .before .before .pre .0 .accepted) _ (signal (c .before))
+shared-slice-read-end-before c = ends-long (c .before .before .before .before .before .before .before .before .before .before .before .pre .0 .accepted) _ (signal (c .before))
 
 end-before-requires : tie.Need-end-before-requires Inv-loop μ-loop Inv-loop2 μ-loop2
-end-before-requires c κs = some-end (c .before .before .before .before .before .before .before .before .before .before .before .before .pre .0 .accepted) _ (signal (c .before))
+end-before-requires c κs = some-end (c .before .before .before .before .before .before .before .before .before .before .before .pre .0 .accepted) _ (signal (c .before))
 
 ports-of-requires : tie.Need-ports-of-requires Inv-loop μ-loop Inv-loop2 μ-loop2
 ports-of-requires c κs = (fits c .0, fits c .1)
@@ -362,7 +362,7 @@ way-write-given-chs : tie.Need-way-write-given-chs Inv-loop μ-loop Inv-loop2 μ
 way-write-given-chs c = omega (arith, short (c .before .before .before .before .before .before .before .before .before))
 
 add-i : tie.Need-add-i Inv-loop μ-loop Inv-loop2 μ-loop2
-add-i c = omega (arith, c .before .before .before .before .before .before .before .before .before .before .before .before .before .before .before .before .before .before .before .pre .0 .accepted .fewChannels, c .before .before .before .before .before .before .before .before .before .before .if1 .taken)
+add-i c = omega (arith, c .before .before .before .before .before .before .before .before .before .before .before .before .before .before .before .before .before .before .pre .0 .accepted .fewChannels, c .before .before .before .before .before .before .before .before .before .before .if1 .taken)
 
 loop-less : tie.Need-loop-less Inv-loop μ-loop Inv-loop2 μ-loop2
 loop-less c = omega (arith, c .before .before .before .before .before .before .before .before .before .before .if1 .taken)
@@ -371,33 +371,33 @@ loop-again : tie.Need-loop-again Inv-loop μ-loop Inv-loop2 μ-loop2
 loop-again c =
     let p = c .before .before .before .before .before .ports-of in
     ⊎-elim
-    (λ w. rw (w .3) (turn-offer (c .before .before .before .before .before .before .before .before .before .before .before .before .before .before .before .before .before .before .before .pre .0 .accepted) (c .before .before .before .before .before .before .before .before .before .before .before .before .loop .inv) (c .before .before .before .before .before .before .before .before .before .before .if1 .taken) (c .before .before .before .before .before .before .before .before .wide .result) (c .before .before .before .before .before .before .end-before .result) (p .result .a) (p .result .b) (p .result .c) (c .before .before .before .before .before .before .before .before .wide .ensures) (giver (c .before .before .before .before .before .before)) (p .ensures .0) (p .ensures .1) (p .ensures .2) (w .0 .taken) (w .1 .o) (offered (record { before = record { before = c .before; if2 = w .0 }; match = w .1 }))))
-    (λ w. rw (w .3) (turn-take (c .before .before .before .before .before .before .before .before .before .before .before .before .before .before .before .before .before .before .before .pre .0 .accepted) (c .before .before .before .before .before .before .before .before .before .before .before .before .loop .inv) (c .before .before .before .before .before .before .before .before .before .before .if1 .taken) (c .before .before .before .before .before .before .before .before .wide .result) (c .before .before .before .before .before .before .end-before .result) (p .result .a) (p .result .b) (p .result .c) (c .before .before .before .before .before .before .before .before .wide .ensures) (giver (c .before .before .before .before .before .before)) (p .ensures .0) (p .ensures .1) (p .ensures .2) (omega (arith, w .0 .left)) (w .1 .t) (taken (record { before = record { before = c .before; if2 = w .0 }; match2 = w .1 }))))
+    (λ w. rw (w .3) (turn-offer (c .before .before .before .before .before .before .before .before .before .before .before .before .before .before .before .before .before .before .pre .0 .accepted) (c .before .before .before .before .before .before .before .before .before .before .before .before .loop .inv) (c .before .before .before .before .before .before .before .before .before .before .if1 .taken) (c .before .before .before .before .before .before .before .before .wide .result) (c .before .before .before .before .before .before .end-before .result) (p .result .a) (p .result .b) (p .result .c) (c .before .before .before .before .before .before .before .before .wide .ensures) (giver (c .before .before .before .before .before .before)) (p .ensures .0) (p .ensures .1) (p .ensures .2) (w .0 .taken) (w .1 .o) (offered (record { before = record { before = c .before; if2 = w .0 }; match = w .1 }))))
+    (λ w. rw (w .3) (turn-take (c .before .before .before .before .before .before .before .before .before .before .before .before .before .before .before .before .before .before .pre .0 .accepted) (c .before .before .before .before .before .before .before .before .before .before .before .before .loop .inv) (c .before .before .before .before .before .before .before .before .before .before .if1 .taken) (c .before .before .before .before .before .before .before .before .wide .result) (c .before .before .before .before .before .before .end-before .result) (p .result .a) (p .result .b) (p .result .c) (c .before .before .before .before .before .before .before .before .wide .ensures) (giver (c .before .before .before .before .before .before)) (p .ensures .0) (p .ensures .1) (p .ensures .2) (omega (arith, w .0 .left)) (w .1 .t) (taken (record { before = record { before = c .before; if2 = w .0 }; match2 = w .1 }))))
     (c .if2 .came)
 
 loop2-holds : tie.Need-loop2-holds Inv-loop μ-loop Inv-loop2 μ-loop2
-loop2-holds c = record { some = omega arith; long = refl; written = refl; valued = all-found (c .before .before .before .before .before .before .before .before .before .pre .0 .accepted) (c .before .before .loop .inv) (c .if1 .left) }
+loop2-holds c = record { some = omega arith; long = refl; written = refl; valued = all-found (c .before .before .before .before .before .before .before .before .pre .0 .accepted) (c .before .before .loop .inv) (c .if1 .left) }
 
 mul-moved-on : tie.Need-mul-moved-on Inv-loop μ-loop Inv-loop2 μ-loop2
-mul-moved-on c = omega (arith, c .if3 .taken, c .before .before .before .before .before .before .before .before .before .before .before .before .pre .0 .accepted .fewChannels)
+mul-moved-on c = omega (arith, c .if3 .taken, c .before .before .before .before .before .before .before .before .before .before .before .pre .0 .accepted .fewChannels)
 
 array-copy-out-moved-on : tie.Need-array-copy-out-moved-on Inv-loop μ-loop Inv-loop2 μ-loop2
-array-copy-out-moved-on c = omega (arith, c .if3 .taken, c .before .before .before .before .before .before .before .before .before .before .before .before .pre .0 .accepted .fewChannels)
+array-copy-out-moved-on c = omega (arith, c .if3 .taken, c .before .before .before .before .before .before .before .before .before .before .before .pre .0 .accepted .fewChannels)
 
 moved-on-requires : tie.Need-moved-on-requires Inv-loop μ-loop Inv-loop2 μ-loop2
-moved-on-requires c κs = small-offer (c .before .before .before .loop2 .inv .valued) (c .before .before .before .loop2 .x) (c .before .if3 .taken) (c .before .before .before .before .before .before .before .before .before .before .before .before .before .pre .0 .small)
+moved-on-requires c κs = small-offer (c .before .before .before .loop2 .inv .valued) (c .before .before .before .loop2 .x) (c .before .if3 .taken) (c .before .before .before .before .before .before .before .before .before .before .before .before .pre .0 .small)
 
 slice-write-moves : tie.Need-slice-write-moves Inv-loop μ-loop Inv-loop2 μ-loop2
-slice-write-moves c = omega (arith, c .before .before .if3 .taken, c .before .before .before .before .loop2 .inv .long, c .before .before .before .before .before .before .before .before .before .before .before .before .before .before .pre .1)
+slice-write-moves c = omega (arith, c .before .before .if3 .taken, c .before .before .before .before .loop2 .inv .long, c .before .before .before .before .before .before .before .before .before .before .before .before .before .pre .1)
 
 add-x : tie.Need-add-x Inv-loop μ-loop Inv-loop2 μ-loop2
-add-x c = omega (arith, c .before .before .if3 .taken, c .before .before .before .before .before .before .before .before .before .before .before .before .before .before .pre .0 .accepted .fewChannels)
+add-x c = omega (arith, c .before .before .if3 .taken, c .before .before .before .before .before .before .before .before .before .before .before .before .before .pre .0 .accepted .fewChannels)
 
 loop2-less : tie.Need-loop2-less Inv-loop μ-loop Inv-loop2 μ-loop2
 loop2-less c = omega (arith, c .before .before .if3 .taken)
 
 loop2-again : tie.Need-loop2-again Inv-loop μ-loop Inv-loop2 μ-loop2
-loop2-again c = written-more (c .before .before .before .before .loop2 .inv) (c .before .before .if3 .taken) (c .before .before .before .before .before .before .before .before .before .before .before .before .before .before .pre .1) _ (c .moved-on .ensures)
+loop2-again c = written-more (c .before .before .before .before .loop2 .inv) (c .before .before .if3 .taken) (c .before .before .before .before .before .before .before .before .before .before .before .before .before .pre .1) _ (c .moved-on .ensures)
 
 same-length : tie.Need-same-length Inv-loop μ-loop Inv-loop2 μ-loop2
 same-length c = c .before .before .loop2 .inv .long
@@ -416,7 +416,7 @@ evaluate-spec =
     loop-holds
     mul-if1
     mul-wide
-    shared-slice-read-wide
+    element-copy-out-wide
     wide-requires
     mul-end-before
     shared-slice-read-end-before
