@@ -22,9 +22,6 @@ slice-aggregate-read c = search needs
 slice-aggregate-read-2 : tie.Need-slice-aggregate-read-2
 slice-aggregate-read-2 c = search needs
 
-slice-aggregate-read-3 : tie.Need-slice-aggregate-read-3
-slice-aggregate-read-3 c = search needs
-
 read-requires : tie.Need-read-requires
 read-requires c κs = search needs
 
@@ -53,17 +50,17 @@ mul-if1 : tie.Need-mul-if1
 mul-if1 c = search needs
 
 array-share-prefix-rows : tie.Need-array-share-prefix-rows
-array-share-prefix-rows c = omega (arith, opened (c .before .before .before .before .before .before .before .read .ensures) (c .before .before .colours .given .1) .fits, c .before .before .before .before .before .before .before .read .kept .1 .0)
+array-share-prefix-rows c = omega (arith, opened (c .before .before .before .before .before .before .read .ensures) (c .before .before .colours .given .1) .fits, c .before .before .before .before .before .before .read .kept .1 .0)
 
 slice-aggregate-judge : tie.Need-slice-aggregate-judge
-slice-aggregate-judge c = opened (c .before .before .before .before .before .before .before .before .read .ensures) (c .before .before .before .colours .given .1) .long
+slice-aggregate-judge c = opened (c .before .before .before .before .before .before .before .read .ensures) (c .before .before .before .colours .given .1) .long
 
 slice-aggregate-judge-2 : tie.Need-slice-aggregate-judge-2
 slice-aggregate-judge-2 c = search needs
 
 judge-requires : tie.Need-judge-requires
 judge-requires c κs =
-    let o = opened (c .before .before .before .before .before .before .before .before .before .read .ensures) (c .before .before .before .before .colours .given .1) in
+    let o = opened (c .before .before .before .before .before .before .before .before .read .ensures) (c .before .before .before .before .colours .given .1) in
     (read-fabric (o .facts), omega (arith, o .fits))
 
 mul-with-room : tie.Need-mul-with-room
@@ -74,8 +71,8 @@ with-room-requires c κs = search needs
 
 returns : tie.Need-returns
 returns c =
-    let o = opened (c .before .before .before .before .before .before .before .before .before .before .before .before .read .ensures) (c .before .before .before .before .before .before .before .colours .given .1) in
-    let a = c .before .before .before .before .before .before .before .before .before .before .before .before .before .before .before .before .before .before .args in
+    let o = opened (c .before .before .before .before .before .before .before .before .before .before .before .read .ensures) (c .before .before .before .before .before .before .before .colours .given .1) in
+    let a = c .before .before .before .before .before .before .before .before .before .before .before .before .before .before .before .before .before .args in
     let j = c .before .before .judge .ensures in
     let room = c .with-room .ensures in (
       room .0 ∙ ap (λ (v : Verdict). roomFor v (length (a .weights .now)) (8 * c .before .before .before .before .before .before .before .colours .given .0 .1 .1 .0)) (j .0) ∙ check-judged (a .file .now) (a .proposal .now) o (length (a .weights .now)),
@@ -84,18 +81,18 @@ returns c =
     )
 
 array-share-prefix-rows-2 : tie.Need-array-share-prefix-rows-2
-array-share-prefix-rows-2 c = omega (arith, opened (c .before .before .before .before .before .before .before .read .ensures) (c .before .before .colours .given .1) .fits, c .before .before .before .before .before .before .before .read .kept .1 .0)
+array-share-prefix-rows-2 c = omega (arith, opened (c .before .before .before .before .before .before .read .ensures) (c .before .before .colours .given .1) .fits, c .before .before .before .before .before .before .read .kept .1 .0)
 
 slice-aggregate-judge-3 : tie.Need-slice-aggregate-judge-3
-slice-aggregate-judge-3 c = opened (c .before .before .before .before .before .before .before .before .read .ensures) (c .before .before .before .colours .given .1) .long
+slice-aggregate-judge-3 c = opened (c .before .before .before .before .before .before .before .read .ensures) (c .before .before .before .colours .given .1) .long
 
 judge-requires-2 : tie.Need-judge-requires-2
-judge-requires-2 c κs = (read-fabric (opened (c .before .before .before .before .before .before .before .before .before .read .ensures) (c .before .before .before .before .colours .given .1) .facts), omega arith)
+judge-requires-2 c κs = (read-fabric (opened (c .before .before .before .before .before .before .before .before .read .ensures) (c .before .before .before .before .colours .given .1) .facts), omega arith)
 
 returns-2 : tie.Need-returns-2
 returns-2 c =
-    let e = sym (c .before .before .before .before .before .before .before .read .ensures .is) ∙ c .before .before .e .given .1 in
-    let a = c .before .before .before .before .before .before .before .before .before .before .before .before .before .args in (
+    let e = sym (c .before .before .before .before .before .before .read .ensures .is) ∙ c .before .before .e .given .1 in
+    let a = c .before .before .before .before .before .before .before .before .before .before .before .before .args in (
       c .refused .ensures .0 ∙ check-refused (a .file .now) (a .proposal .now) e (length (a .weights .now)),
       c .refused .ensures .1 ∙ check-zero (a .file .now) (a .proposal .now) e (length (a .weights .now)),
       check-kept (a .file .now) (a .proposal .now) e (a .weights .now),
@@ -106,8 +103,8 @@ same-length c = search needs
 
 returns-3 : tie.Need-returns-3
 returns-3 c =
-    let o = opened (c .before .before .before .before .before .before .before .before .before .before .before .read .ensures) (c .before .before .before .before .before .before .colours .given .1) in
-    let a = c .before .before .before .before .before .before .before .before .before .before .before .before .before .before .before .before .before .args in
+    let o = opened (c .before .before .before .before .before .before .before .before .before .before .read .ensures) (c .before .before .before .before .before .before .colours .given .1) in
+    let a = c .before .before .before .before .before .before .before .before .before .before .before .before .before .before .before .before .args in
     let j = c .before .judge2 .ensures in (
       j .0 ∙ check-verdict (a .file .now) (a .proposal .now) o (a .weights .now) (omega arith),
       j .1 .0 ∙ check-number (a .file .now) (a .proposal .now) o (a .weights .now) (omega arith),
@@ -120,7 +117,6 @@ check-spec =
     (tie.spec
     slice-aggregate-read
     slice-aggregate-read-2
-    slice-aggregate-read-3
     read-requires
     enum-known-e
     refused-requires

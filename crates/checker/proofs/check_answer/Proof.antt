@@ -21,9 +21,6 @@ slice-aggregate-read c = search needs
 slice-aggregate-read-2 : tie.Need-slice-aggregate-read-2
 slice-aggregate-read-2 c = search needs
 
-slice-aggregate-read-3 : tie.Need-slice-aggregate-read-3
-slice-aggregate-read-3 c = search needs
-
 read-requires : tie.Need-read-requires
 read-requires c κs = search needs
 
@@ -45,21 +42,21 @@ mul-end c = search needs
 cast-with-room : tie.Need-cast-with-room
 cast-with-room c = search needs
 
-cast-t25 : tie.Need-cast-t25
-cast-t25 c = search needs
+cast-t24 : tie.Need-cast-t24
+cast-t24 c = search needs
 
 array-share-prefix-rows : tie.Need-array-share-prefix-rows
-array-share-prefix-rows c = omega (arith, opened (c .before .before .before .before .before .before .read .ensures) (c .before .colours .given .1) .fits, c .before .before .before .before .before .before .read .kept .1 .0)
+array-share-prefix-rows c = omega (arith, opened (c .before .before .before .before .before .read .ensures) (c .before .colours .given .1) .fits, c .before .before .before .before .before .read .kept .1 .0)
 
 slice-aggregate-judge : tie.Need-slice-aggregate-judge
-slice-aggregate-judge c = opened (c .before .before .before .before .before .before .before .read .ensures) (c .before .before .colours .given .1) .long
+slice-aggregate-judge c = opened (c .before .before .before .before .before .before .read .ensures) (c .before .before .colours .given .1) .long
 
 slice-aggregate-judge-2 : tie.Need-slice-aggregate-judge-2
 slice-aggregate-judge-2 c = search needs
 
 judge-requires : tie.Need-judge-requires
 judge-requires c κs =
-    let o = opened (c .before .before .before .before .before .before .before .before .read .ensures) (c .before .before .before .colours .given .1) in
+    let o = opened (c .before .before .before .before .before .before .before .read .ensures) (c .before .before .before .colours .given .1) in
     (read-fabric (o .facts), omega (arith, o .fits))
 
 mul-with-room : tie.Need-mul-with-room
@@ -70,14 +67,14 @@ with-room-requires c κs = search needs
 
 returns : tie.Need-returns
 returns c =
-    let e = sym (c .before .before .before .before .before .before .before .read .ensures .is) ∙ c .before .before .e .given .1 in
-    let a = c .before .before .before .before .before .before .before .before .before .before .before .before .before .args in
+    let e = sym (c .before .before .before .before .before .before .read .ensures .is) ∙ c .before .before .e .given .1 in
+    let a = c .before .before .before .before .before .before .before .before .before .before .before .before .args in
     (c .refused .ensures .0 ∙ check-refused (a .file .now) (a .proposal .now) e (a .space), c .refused .ensures .1 ∙ check-zero (a .file .now) (a .proposal .now) e (a .space))
 
 returns-2 : tie.Need-returns-2
 returns-2 c =
-    let o = opened (c .before .before .before .before .before .before .before .before .before .before .before .read .ensures) (c .before .before .before .before .before .before .colours .given .1) in
-    let a = c .before .before .before .before .before .before .before .before .before .before .before .before .before .before .before .before .before .args in
+    let o = opened (c .before .before .before .before .before .before .before .before .before .before .read .ensures) (c .before .before .before .before .before .before .colours .given .1) in
+    let a = c .before .before .before .before .before .before .before .before .before .before .before .before .before .before .before .before .args in
     let j = c .before .before .judge .ensures in
     let room = c .with-room .ensures in (
       room .0 ∙ ap (λ (v : Verdict). roomFor v (a .space) (8 * c .before .before .before .before .before .before .colours .given .0 .1 .1 .0)) (j .0) ∙ check-judged (a .file .now) (a .proposal .now) o (a .space),
@@ -90,7 +87,6 @@ check-answer-spec =
     (tie.spec
     slice-aggregate-read
     slice-aggregate-read-2
-    slice-aggregate-read-3
     read-requires
     enum-known-e
     refused-requires
@@ -98,7 +94,7 @@ check-answer-spec =
     cast-n
     mul-end
     cast-with-room
-    cast-t25
+    cast-t24
     array-share-prefix-rows
     slice-aggregate-judge
     slice-aggregate-judge-2

@@ -23,9 +23,6 @@ slice-aggregate-read c = search needs
 slice-aggregate-read-2 : tie.Need-slice-aggregate-read-2
 slice-aggregate-read-2 c = search needs
 
-slice-aggregate-read-3 : tie.Need-slice-aggregate-read-3
-slice-aggregate-read-3 c = search needs
-
 read-requires : tie.Need-read-requires
 read-requires c κs = search needs
 
@@ -48,17 +45,17 @@ cast-room-for-2 : tie.Need-cast-room-for-2
 cast-room-for-2 c = search needs
 
 array-share-prefix-rows : tie.Need-array-share-prefix-rows
-array-share-prefix-rows c = omega (arith, opened (c .before .before .before .before .before .before .read .ensures) (c .before .colours .given .1) .fits, c .before .before .before .before .before .before .read .kept .1 .0)
+array-share-prefix-rows c = omega (arith, opened (c .before .before .before .before .before .read .ensures) (c .before .colours .given .1) .fits, c .before .before .before .before .before .read .kept .1 .0)
 
 slice-aggregate-judge : tie.Need-slice-aggregate-judge
-slice-aggregate-judge c = opened (c .before .before .before .before .before .before .before .read .ensures) (c .before .before .colours .given .1) .long
+slice-aggregate-judge c = opened (c .before .before .before .before .before .before .read .ensures) (c .before .before .colours .given .1) .long
 
 slice-aggregate-judge-2 : tie.Need-slice-aggregate-judge-2
 slice-aggregate-judge-2 c = search needs
 
 judge-requires : tie.Need-judge-requires
 judge-requires c κs =
-    let o = opened (c .before .before .before .before .before .before .before .before .read .ensures) (c .before .before .before .colours .given .1) in
+    let o = opened (c .before .before .before .before .before .before .before .read .ensures) (c .before .before .before .colours .given .1) in
     (read-fabric (o .facts), omega (arith, o .fits))
 
 mul-room-for : tie.Need-mul-room-for
@@ -81,21 +78,21 @@ mul-write-bytes c = search needs
 
 write-bytes-requires : tie.Need-write-bytes-requires
 write-bytes-requires c κs =
-    let a = c .before .before .before .before .before .before .before .before .before .before .before .before .before .before .before .before .before .before .before .before .before .before .args in
-    let o = opened (c .before .before .before .before .before .before .before .before .before .before .before .before .before .before .before .read .ensures) (c .before .before .before .before .before .before .before .before .before .before .colours .given .1) in
+    let a = c .before .before .before .before .before .before .before .before .before .before .before .before .before .before .before .before .before .before .before .before .before .args in
+    let o = opened (c .before .before .before .before .before .before .before .before .before .before .before .before .before .before .read .ensures) (c .before .before .before .before .before .before .before .before .before .before .colours .given .1) in
     let room = room-space (c .before .before .before .before .before .before .judge .result .verdict) (length (a .weights .now) / 8) (8 * c .before .before .before .before .before .before .before .before .before .before .colours .given .0 .1 .1 .0) (sym (c .before .before .before .before .room-for .ensures) ∙ c .before .before .enum-told .given .1) in
     (omega (arith, o .fits), omega (arith, o .fits), omega (arith, room))
 
 returns : tie.Need-returns
 returns c =
-    let a = c .before .before .before .before .before .before .before .before .before .before .before .before .before .args in
-    let e = check-refused (a .file .now) (a .proposal .now) (sym (c .before .before .before .before .before .before .read .ensures .is) ∙ c .before .e .given .1) (length (a .weights .now) / 8) in
+    let a = c .before .before .before .before .before .before .before .before .before .before .before .before .args in
+    let e = check-refused (a .file .now) (a .proposal .now) (sym (c .before .before .before .before .before .read .ensures .is) ∙ c .before .e .given .1) (length (a .weights .now) / 8) in
     (e, bytes-kept (a .file .now) (a .proposal .now) (a .weights .now) e)
 
 returns-2 : tie.Need-returns-2
 returns-2 c =
-    let a = c .before .before .before .before .before .before .before .before .before .before .before .before .before .before .before .before .before .before .before .before .before .args in
-    let o = opened (c .before .before .before .before .before .before .before .before .before .before .before .before .before .before .read .ensures) (c .before .before .before .before .before .before .before .before .before .colours .given .1) in
+    let a = c .before .before .before .before .before .before .before .before .before .before .before .before .before .before .before .before .before .before .before .before .args in
+    let o = opened (c .before .before .before .before .before .before .before .before .before .before .before .before .before .read .ensures) (c .before .before .before .before .before .before .before .before .before .colours .given .1) in
     let e = sym (c .before .r .given .1) ∙ c .before .before .before .room-for .ensures ∙ ap (λ (v : Verdict). roomFor v (length (a .weights .now) / 8) (8 * c .before .before .before .before .before .before .before .before .before .colours .given .0 .1 .1 .0)) (c .before .before .before .before .before .judge .ensures .0) ∙ check-judged (a .file .now) (a .proposal .now) o (length (a .weights .now) / 8) in
     (e, bytes-kept (a .file .now) (a .proposal .now) (a .weights .now) e)
 
@@ -104,8 +101,8 @@ same-length c = search needs
 
 returns-3 : tie.Need-returns-3
 returns-3 c =
-    let a = c .before .before .before .before .before .before .before .before .before .before .before .before .before .before .before .before .before .before .before .before .before .before .before .before .before .args in
-    let o = opened (c .before .before .before .before .before .before .before .before .before .before .before .before .before .before .before .before .before .before .read .ensures) (c .before .before .before .before .before .before .before .before .before .before .before .before .before .colours .given .1) in
+    let a = c .before .before .before .before .before .before .before .before .before .before .before .before .before .before .before .before .before .before .before .before .before .before .before .before .args in
+    let o = opened (c .before .before .before .before .before .before .before .before .before .before .before .before .before .before .before .before .before .read .ensures) (c .before .before .before .before .before .before .before .before .before .before .before .before .before .colours .given .1) in
     let j = c .before .before .before .before .before .before .before .before .before .judge .ensures in
     let e = sym (c .before .before .before .before .before .enum-told .given .1) ∙ c .before .before .before .before .before .before .before .room-for .ensures ∙ ap (λ (v : Verdict). roomFor v (length (a .weights .now) / 8) (8 * c .before .before .before .before .before .before .before .before .before .before .before .before .before .colours .given .0 .1 .1 .0)) (c .before .before .before .before .before .before .before .before .before .judge .ensures .0) ∙ check-judged (a .file .now) (a .proposal .now) o (length (a .weights .now) / 8) in
     let accepted = sym (j .0) ∙ room-accepted (c .before .before .before .before .before .before .before .before .before .judge .result .verdict) (length (a .weights .now) / 8) (8 * c .before .before .before .before .before .before .before .before .before .before .before .before .before .colours .given .0 .1 .1 .0) (sym (c .before .before .before .before .before .before .before .room-for .ensures) ∙ c .before .before .before .before .before .enum-told .given .1) in
@@ -117,7 +114,6 @@ check-bytes-spec =
     (tie.spec
     slice-aggregate-read
     slice-aggregate-read-2
-    slice-aggregate-read-3
     read-requires
     enum-known-e
     enum-known-colours

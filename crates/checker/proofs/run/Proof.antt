@@ -17,9 +17,6 @@ slice-aggregate-read c = search needs
 slice-aggregate-read-2 : tie.Need-slice-aggregate-read-2
 slice-aggregate-read-2 c = search needs
 
-slice-aggregate-read-3 : tie.Need-slice-aggregate-read-3
-slice-aggregate-read-3 c = search needs
-
 read-requires : tie.Need-read-requires
 read-requires c κs = search needs
 
@@ -36,23 +33,23 @@ mul-end : tie.Need-mul-end
 mul-end c = search needs
 
 rem-uneven : tie.Need-rem-uneven
-rem-uneven c = opened (c .before .before .before .before .before .before .read .ensures) (c .before .colours .given .1) .facts .someRows
+rem-uneven c = opened (c .before .before .before .before .before .read .ensures) (c .before .colours .given .1) .facts .someRows
+
+cast-t24 : tie.Need-cast-t24
+cast-t24 c = search needs
 
 cast-t25 : tie.Need-cast-t25
 cast-t25 c = search needs
 
-cast-t26 : tie.Need-cast-t26
-cast-t26 c = search needs
-
 array-share-prefix-rows : tie.Need-array-share-prefix-rows
-array-share-prefix-rows c = omega (arith, opened (c .before .before .before .before .before .before .read .ensures) (c .before .colours .given .1) .fits, c .before .before .before .before .before .before .read .kept .1 .0)
+array-share-prefix-rows c = omega (arith, opened (c .before .before .before .before .before .read .ensures) (c .before .colours .given .1) .fits, c .before .before .before .before .before .read .kept .1 .0)
 
 slice-aggregate-ready : tie.Need-slice-aggregate-ready
-slice-aggregate-ready c = opened (c .before .before .before .before .before .before .before .read .ensures) (c .before .before .colours .given .1) .long
+slice-aggregate-ready c = opened (c .before .before .before .before .before .before .read .ensures) (c .before .before .colours .given .1) .long
 
 ready-requires : tie.Need-ready-requires
 ready-requires c κs =
-    let o = opened (c .before .before .before .before .before .before .before .before .read .ensures) (c .before .before .before .colours .given .1) in
+    let o = opened (c .before .before .before .before .before .before .before .read .ensures) (c .before .before .before .colours .given .1) in
     (o .facts .someRows, o .facts .fewColours, o .facts .fewRows, omega (arith, o .long))
 
 enum-known-v : tie.Need-enum-known-v
@@ -62,27 +59,24 @@ enum-told : tie.Need-enum-told
 enum-told c = search needs
 
 array-share-prefix-rows-2 : tie.Need-array-share-prefix-rows-2
-array-share-prefix-rows-2 c = omega (arith, opened (c .before .before .before .before .before .before .before .before .before .before .before .read .ensures) (c .before .before .before .before .before .before .colours .given .1) .fits, c .before .before .before .before .before .before .before .before .before .before .before .read .kept .1 .0)
+array-share-prefix-rows-2 c = omega (arith, opened (c .before .before .before .before .before .before .before .before .before .before .read .ensures) (c .before .before .before .before .before .before .colours .given .1) .fits, c .before .before .before .before .before .before .before .before .before .before .read .kept .1 .0)
 
 slice-aggregate-run-steps : tie.Need-slice-aggregate-run-steps
-slice-aggregate-run-steps c = opened (c .before .before .before .before .before .before .before .before .before .before .before .before .read .ensures) (c .before .before .before .before .before .before .before .colours .given .1) .long
+slice-aggregate-run-steps c = opened (c .before .before .before .before .before .before .before .before .before .before .before .read .ensures) (c .before .before .before .before .before .before .before .colours .given .1) .long
 
 slice-aggregate-run-steps-2 : tie.Need-slice-aggregate-run-steps-2
 slice-aggregate-run-steps-2 c = search needs
 
-slice-aggregate-run-steps-3 : tie.Need-slice-aggregate-run-steps-3
-slice-aggregate-run-steps-3 c = search needs
-
 run-steps-requires : tie.Need-run-steps-requires
 run-steps-requires c κs =
-    let a = c .before .before .before .before .before .before .before .before .before .before .before .before .before .before .before .before .before .before .before .before .before .before .args in
-    let o = opened (c .before .before .before .before .before .before .before .before .before .before .before .before .before .before .before .read .ensures) (c .before .before .before .before .before .before .before .before .before .before .colours .given .1) in
+    let a = c .before .before .before .before .before .before .before .before .before .before .before .before .before .before .before .before .before .before .before .before .before .args in
+    let o = opened (c .before .before .before .before .before .before .before .before .before .before .before .before .before .before .read .ensures) (c .before .before .before .before .before .before .before .before .before .before .colours .given .1) in
     run-given (a .file .now) (a .state .now) (a .choices .now) o (sym (c .before .before .before .before .before .before .ready .ensures) ∙ c .before .before .before .before .enum-told .given .1)
 
 returns : tie.Need-returns
 returns c =
-    let a = c .before .before .before .before .before .before .before .before .before .before .before .before .before .args in
-    let e = run-refused (a .file .now) (a .state .now) (a .choices .now) (sym (c .before .before .before .before .before .before .read .ensures .is) ∙ c .before .e .given .1) in
+    let a = c .before .before .before .before .before .before .before .before .before .before .before .before .args in
+    let e = run-refused (a .file .now) (a .state .now) (a .choices .now) (sym (c .before .before .before .before .before .read .ensures .is) ∙ c .before .e .given .1) in
     (e, run-kept (a .file .now) (a .state .now) (a .choices .now) e)
 
 same-length : tie.Need-same-length
@@ -90,8 +84,8 @@ same-length c = search needs
 
 returns-2 : tie.Need-returns-2
 returns-2 c =
-    let a = c .before .before .before .before .before .before .before .before .before .before .before .before .before .before .before .before .before .before .before .args in
-    let e = sym (c .before .v .given .1) ∙ c .before .before .before .ready .ensures ∙ run-judged (a .file .now) (a .state .now) (a .choices .now) (opened (c .before .before .before .before .before .before .before .before .before .before .before .before .read .ensures) (c .before .before .before .before .before .before .before .colours .given .1)) in
+    let a = c .before .before .before .before .before .before .before .before .before .before .before .before .before .before .before .before .before .before .args in
+    let e = sym (c .before .v .given .1) ∙ c .before .before .before .ready .ensures ∙ run-judged (a .file .now) (a .state .now) (a .choices .now) (opened (c .before .before .before .before .before .before .before .before .before .before .before .read .ensures) (c .before .before .before .before .before .before .before .colours .given .1)) in
     (e, run-kept (a .file .now) (a .state .now) (a .choices .now) e)
 
 same-length-2 : tie.Need-same-length-2
@@ -99,8 +93,8 @@ same-length-2 c = search needs
 
 returns-3 : tie.Need-returns-3
 returns-3 c =
-    let a = c .before .before .before .before .before .before .before .before .before .before .before .before .before .before .before .before .before .before .before .before .before .before .before .before .before .args in
-    let o = opened (c .before .before .before .before .before .before .before .before .before .before .before .before .before .before .before .before .before .before .read .ensures) (c .before .before .before .before .before .before .before .before .before .before .before .before .before .colours .given .1) in
+    let a = c .before .before .before .before .before .before .before .before .before .before .before .before .before .before .before .before .before .before .before .before .before .before .before .before .args in
+    let o = opened (c .before .before .before .before .before .before .before .before .before .before .before .before .before .before .before .before .before .read .ensures) (c .before .before .before .before .before .before .before .before .before .before .before .before .before .colours .given .1) in
     let e = sym (c .before .before .before .before .before .before .before .enum-told .given .1) ∙ c .before .before .before .before .before .before .before .before .before .ready .ensures ∙ run-judged (a .file .now) (a .state .now) (a .choices .now) o in
     (e, c .before .before .run-steps .ensures ∙ run-written (a .file .now) (a .state .now) (a .choices .now) _ (o .same) e)
 
@@ -110,15 +104,14 @@ run-spec =
     (tie.spec
     slice-aggregate-read
     slice-aggregate-read-2
-    slice-aggregate-read-3
     read-requires
     enum-known-e
     enum-known-colours
     cast-n
     mul-end
     rem-uneven
+    cast-t24
     cast-t25
-    cast-t26
     array-share-prefix-rows
     slice-aggregate-ready
     ready-requires
@@ -127,7 +120,6 @@ run-spec =
     array-share-prefix-rows-2
     slice-aggregate-run-steps
     slice-aggregate-run-steps-2
-    slice-aggregate-run-steps-3
     run-steps-requires
     returns
     same-length

@@ -19,13 +19,13 @@ abbrev μ-loop : tie.MeasureT-loop
 μ-loop table ends size order state₀ choices moves₀ n steps at₀ j₀ state moves at j = length choices / size .components - j
 
 div-steps : tie.Need-div-steps Inv-loop μ-loop
-div-steps c = c .before .before .before .before .before .pre .accepted .someRows
+div-steps c = c .before .before .before .before .pre .accepted .someRows
 
 loop-holds : tie.Need-loop-holds Inv-loop μ-loop
-loop-holds c = (run-start (c .before .before .before .before .before .pre), refl)
+loop-holds c = (run-start (c .before .before .before .before .pre), refl)
 
 add-end : tie.Need-add-end Inv-loop μ-loop
-add-end c = omega (arith, run-room (c .before .before .before .before .before .before .before .pre) (c .before .loop .inv .0) (c .loop-test .taken))
+add-end c = omega (arith, run-room (c .before .before .before .before .before .before .pre) (c .before .loop .inv .0) (c .loop-test .taken))
 
 sub-take-step : tie.Need-sub-take-step Inv-loop μ-loop
 sub-take-step c = omega arith
@@ -34,14 +34,14 @@ part-take-step-start : tie.Need-part-take-step-start Inv-loop μ-loop
 part-take-step-start c = omega arith
 
 part-take-step-end : tie.Need-part-take-step-end Inv-loop μ-loop
-part-take-step-end c = omega (arith, run-room (c .before .before .before .before .before .before .before .before .pre) (c .before .before .loop .inv .0) (c .before .loop-test .taken))
+part-take-step-end c = omega (arith, run-room (c .before .before .before .before .before .before .before .pre) (c .before .before .loop .inv .0) (c .before .loop-test .taken))
 
 slice-aggregate-take-step : tie.Need-slice-aggregate-take-step Inv-loop μ-loop
 slice-aggregate-take-step c = omega (arith, c .before .before .before .before .loop .inv .1)
 
 take-step-requires : tie.Need-take-step-requires Inv-loop μ-loop
 take-step-requires c κs =
-    let s = c .before .before .before .before .before .before .before .before .before .before in
+    let s = c .before .before .before .before .before .before .before .before .before in
     let l = c .before .before .before .before .loop in
     let n = s .args .size .components in
     let w : l .at + n - l .at ≡ n = omega arith in
@@ -49,7 +49,7 @@ take-step-requires c κs =
 
 add-j : tie.Need-add-j Inv-loop μ-loop
 add-j c =
-    let a = c .before .before .before .before .before .before .before .before .before .before .before .before .before .before .args in
+    let a = c .before .before .before .before .before .before .before .before .before .before .before .before .before .args in
     omega (arith, c .before .before .before .before .before .before .before .loop-test .taken, div-le-self (length (a .choices .now)) (a .size .components))
 
 loop-less : tie.Need-loop-less Inv-loop μ-loop
@@ -57,7 +57,7 @@ loop-less c = omega (arith, c .before .before .before .before .before .before .b
 
 loop-again : tie.Need-loop-again Inv-loop μ-loop
 loop-again c =
-    let s = c .before .before .before .before .before .before .before .before .before .before .before .before .before .before in
+    let s = c .before .before .before .before .before .before .before .before .before .before .before .before .before in
     let l = c .before .before .before .before .before .before .before .before .loop in
     let n = s .args .size .components in
     let w : l .at + n - l .at ≡ n = omega arith in

@@ -19,9 +19,6 @@ slice-aggregate-read c = search needs
 slice-aggregate-read-2 : tie.Need-slice-aggregate-read-2
 slice-aggregate-read-2 c = search needs
 
-slice-aggregate-read-3 : tie.Need-slice-aggregate-read-3
-slice-aggregate-read-3 c = search needs
-
 read-requires : tie.Need-read-requires
 read-requires c κs = search needs
 
@@ -44,14 +41,14 @@ cast-room-for : tie.Need-cast-room-for
 cast-room-for c = search needs
 
 array-share-prefix-rows : tie.Need-array-share-prefix-rows
-array-share-prefix-rows c = omega (arith, opened (c .before .before .before .before .before .before .read .ensures) (c .before .colours .given .1) .fits, c .before .before .before .before .before .before .read .kept .1 .0)
+array-share-prefix-rows c = omega (arith, opened (c .before .before .before .before .before .read .ensures) (c .before .colours .given .1) .fits, c .before .before .before .before .before .read .kept .1 .0)
 
 slice-aggregate-ready : tie.Need-slice-aggregate-ready
-slice-aggregate-ready c = opened (c .before .before .before .before .before .before .before .read .ensures) (c .before .before .colours .given .1) .long
+slice-aggregate-ready c = opened (c .before .before .before .before .before .before .read .ensures) (c .before .before .colours .given .1) .long
 
 ready-requires : tie.Need-ready-requires
 ready-requires c κs =
-    let o = opened (c .before .before .before .before .before .before .before .before .read .ensures) (c .before .before .before .colours .given .1) in
+    let o = opened (c .before .before .before .before .before .before .before .read .ensures) (c .before .before .before .colours .given .1) in
     (o .facts .someRows, o .facts .fewColours, o .facts .fewRows, omega (arith, o .long))
 
 room-for-requires : tie.Need-room-for-requires
@@ -64,29 +61,26 @@ enum-told : tie.Need-enum-told
 enum-told c = search needs
 
 array-share-prefix-rows-2 : tie.Need-array-share-prefix-rows-2
-array-share-prefix-rows-2 c = omega (arith, opened (c .before .before .before .before .before .before .before .before .before .before .before .before .read .ensures) (c .before .before .before .before .before .before .before .colours .given .1) .fits, c .before .before .before .before .before .before .before .before .before .before .before .before .read .kept .1 .0)
+array-share-prefix-rows-2 c = omega (arith, opened (c .before .before .before .before .before .before .before .before .before .before .before .read .ensures) (c .before .before .before .before .before .before .before .colours .given .1) .fits, c .before .before .before .before .before .before .before .before .before .before .before .read .kept .1 .0)
 
 slice-aggregate-take-step : tie.Need-slice-aggregate-take-step
-slice-aggregate-take-step c = opened (c .before .before .before .before .before .before .before .before .before .before .before .before .before .read .ensures) (c .before .before .before .before .before .before .before .before .colours .given .1) .long
+slice-aggregate-take-step c = opened (c .before .before .before .before .before .before .before .before .before .before .before .before .read .ensures) (c .before .before .before .before .before .before .before .before .colours .given .1) .long
 
 slice-aggregate-take-step-2 : tie.Need-slice-aggregate-take-step-2
 slice-aggregate-take-step-2 c = search needs
 
-slice-aggregate-take-step-3 : tie.Need-slice-aggregate-take-step-3
-slice-aggregate-take-step-3 c = search needs
-
 take-step-requires : tie.Need-take-step-requires
 take-step-requires c κs =
-    let a = c .before .before .before .before .before .before .before .before .before .before .before .before .before .before .before .before .before .before .before .before .before .before .before .before .before .args in
-    let o = opened (c .before .before .before .before .before .before .before .before .before .before .before .before .before .before .before .before .before .read .ensures) (c .before .before .before .before .before .before .before .before .before .before .before .before .colours .given .1) in
+    let a = c .before .before .before .before .before .before .before .before .before .before .before .before .before .before .before .before .before .before .before .before .before .before .before .before .args in
+    let o = opened (c .before .before .before .before .before .before .before .before .before .before .before .before .before .before .before .before .read .ensures) (c .before .before .before .before .before .before .before .before .before .before .before .before .colours .given .1) in
     let room = sym (c .before .before .before .before .before .before .before .room-for .ensures) ∙ c .before .before .before .before .before .enum-told .given .1 in
     let e = sym (c .before .before .before .before .before .before .before .before .ready .ensures) ∙ room-accepted _ _ _ room in
-    (ready-step _ _ _ (a .state .now) (a .choices .now) (o .facts) e, omega (arith, o .facts .fewChannels, c .before .before .before .before .before .before .before .before .before .before .before .before .before .before .before .before .before .read .kept .1 .1 .1 .0), room-space (c .before .before .before .before .before .before .before .before .ready .result) (length (a .moves .now)) (c .before .before .before .before .before .before .before .before .before .before .before .before .colours .given .0 .1 .0) room)
+    (ready-step _ _ _ (a .state .now) (a .choices .now) (o .facts) e, room-space (c .before .before .before .before .before .before .before .before .ready .result) (length (a .moves .now)) (c .before .before .before .before .before .before .before .before .before .before .before .before .colours .given .0 .1 .0) room)
 
 returns : tie.Need-returns
 returns c =
-    let a = c .before .before .before .before .before .before .before .before .before .before .before .before .before .before .args in
-    let e = step-refused (a .file .now) (a .state .now) (a .choices .now) (length (a .moves .now)) (sym (c .before .before .before .before .before .before .read .ensures .is) ∙ c .before .e .given .1) in
+    let a = c .before .before .before .before .before .before .before .before .before .before .before .before .before .args in
+    let e = step-refused (a .file .now) (a .state .now) (a .choices .now) (length (a .moves .now)) (sym (c .before .before .before .before .before .read .ensures .is) ∙ c .before .e .given .1) in
     (e, step-kept (a .file .now) (a .state .now) (a .choices .now) (length (a .moves .now)) e, moves-kept (a .file .now) (a .state .now) (a .choices .now) (a .moves .now) e)
 
 same-length : tie.Need-same-length
@@ -94,8 +88,8 @@ same-length c = search needs
 
 returns-2 : tie.Need-returns-2
 returns-2 c =
-    let a = c .before .before .before .before .before .before .before .before .before .before .before .before .before .before .before .before .before .before .before .before .before .args in
-    let o = opened (c .before .before .before .before .before .before .before .before .before .before .before .before .before .read .ensures) (c .before .before .before .before .before .before .before .before .colours .given .1) in
+    let a = c .before .before .before .before .before .before .before .before .before .before .before .before .before .before .before .before .before .before .before .before .args in
+    let o = opened (c .before .before .before .before .before .before .before .before .before .before .before .before .read .ensures) (c .before .before .before .before .before .before .before .before .colours .given .1) in
     let verdict = c .before .before .before .room-for .ensures ∙ step-judged (a .file .now) (a .state .now) (a .choices .now) o (length (a .moves .now)) _ (c .before .before .before .before .ready .ensures) in
     let e = sym (c .before .r .given .1) ∙ verdict in
     (e, step-kept (a .file .now) (a .state .now) (a .choices .now) (length (a .moves .now)) e, moves-kept (a .file .now) (a .state .now) (a .choices .now) (a .moves .now) e)
@@ -108,8 +102,8 @@ same-length-3 c = search needs
 
 returns-3 : tie.Need-returns-3
 returns-3 c =
-    let a = c .before .before .before .before .before .before .before .before .before .before .before .before .before .before .before .before .before .before .before .before .before .before .before .before .before .before .before .before .before .before .args in
-    let o = opened (c .before .before .before .before .before .before .before .before .before .before .before .before .before .before .before .before .before .before .before .before .before .before .read .ensures) (c .before .before .before .before .before .before .before .before .before .before .before .before .before .before .before .before .before .colours .given .1) in
+    let a = c .before .before .before .before .before .before .before .before .before .before .before .before .before .before .before .before .before .before .before .before .before .before .before .before .before .before .before .before .before .args in
+    let o = opened (c .before .before .before .before .before .before .before .before .before .before .before .before .before .before .before .before .before .before .before .before .before .read .ensures) (c .before .before .before .before .before .before .before .before .before .before .before .before .before .before .before .before .before .colours .given .1) in
     let verdict = c .before .before .before .before .before .before .before .before .before .before .before .before .room-for .ensures ∙ step-judged (a .file .now) (a .state .now) (a .choices .now) o (length (a .moves .now)) _ (c .before .before .before .before .before .before .before .before .before .before .before .before .before .ready .ensures) in
     let e = sym (c .before .before .before .before .before .before .before .before .before .before .enum-told .given .1) ∙ verdict in
     let t = c .before .before .before .before .take-step .ensures in
@@ -121,7 +115,6 @@ step-spec =
     (tie.spec
     slice-aggregate-read
     slice-aggregate-read-2
-    slice-aggregate-read-3
     read-requires
     enum-known-e
     enum-known-colours
@@ -138,7 +131,6 @@ step-spec =
     array-share-prefix-rows-2
     slice-aggregate-take-step
     slice-aggregate-take-step-2
-    slice-aggregate-take-step-3
     take-step-requires
     returns
     same-length

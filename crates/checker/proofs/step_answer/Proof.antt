@@ -17,9 +17,6 @@ slice-aggregate-read c = search needs
 slice-aggregate-read-2 : tie.Need-slice-aggregate-read-2
 slice-aggregate-read-2 c = search needs
 
-slice-aggregate-read-3 : tie.Need-slice-aggregate-read-3
-slice-aggregate-read-3 c = search needs
-
 read-requires : tie.Need-read-requires
 read-requires c κs = search needs
 
@@ -38,18 +35,18 @@ cast-m c = search needs
 mul-end : tie.Need-mul-end
 mul-end c = search needs
 
-cast-t26 : tie.Need-cast-t26
-cast-t26 c = search needs
+cast-t25 : tie.Need-cast-t25
+cast-t25 c = search needs
 
 array-share-prefix-rows : tie.Need-array-share-prefix-rows
-array-share-prefix-rows c = omega (arith, opened (c .before .before .before .before .before .before .read .ensures) (c .before .colours .given .1) .fits, c .before .before .before .before .before .before .read .kept .1 .0)
+array-share-prefix-rows c = omega (arith, opened (c .before .before .before .before .before .read .ensures) (c .before .colours .given .1) .fits, c .before .before .before .before .before .read .kept .1 .0)
 
 slice-aggregate-ready : tie.Need-slice-aggregate-ready
-slice-aggregate-ready c = opened (c .before .before .before .before .before .before .before .read .ensures) (c .before .before .colours .given .1) .long
+slice-aggregate-ready c = opened (c .before .before .before .before .before .before .read .ensures) (c .before .before .colours .given .1) .long
 
 ready-requires : tie.Need-ready-requires
 ready-requires c κs =
-    let o = opened (c .before .before .before .before .before .before .before .read .ensures) (c .before .before .colours .given .1) in
+    let o = opened (c .before .before .before .before .before .before .read .ensures) (c .before .before .colours .given .1) in
     (o .facts .someRows, o .facts .fewColours, o .facts .fewRows, omega (arith, o .long))
 
 room-for-requires : tie.Need-room-for-requires
@@ -57,13 +54,13 @@ room-for-requires c κs = search needs
 
 returns : tie.Need-returns
 returns c =
-    let a = c .before .before .before .before .before .before .before .before .before .before .before .before .before .args in
-    step-refused (a .file .now) (a .state .now) (a .choices .now) (a .space) (sym (c .before .before .before .before .before .before .read .ensures .is) ∙ c .before .e .given .1)
+    let a = c .before .before .before .before .before .before .before .before .before .before .before .before .args in
+    step-refused (a .file .now) (a .state .now) (a .choices .now) (a .space) (sym (c .before .before .before .before .before .read .ensures .is) ∙ c .before .e .given .1)
 
 returns-2 : tie.Need-returns-2
 returns-2 c =
-    let a = c .before .before .before .before .before .before .before .before .before .before .before .before .before .before .before .before .args in
-    c .room-for .ensures ∙ step-judged (a .file .now) (a .state .now) (a .choices .now) (opened (c .before .before .before .before .before .before .before .before .before .read .ensures) (c .before .before .before .before .colours .given .1)) (a .space) _ (c .before .ready .ensures)
+    let a = c .before .before .before .before .before .before .before .before .before .before .before .before .before .before .before .args in
+    c .room-for .ensures ∙ step-judged (a .file .now) (a .state .now) (a .choices .now) (opened (c .before .before .before .before .before .before .before .before .read .ensures) (c .before .before .before .before .colours .given .1)) (a .space) _ (c .before .ready .ensures)
 
 pub step-answer-spec : {M : Type 1} → statement M
 step-answer-spec =
@@ -71,14 +68,13 @@ step-answer-spec =
     (tie.spec
     slice-aggregate-read
     slice-aggregate-read-2
-    slice-aggregate-read-3
     read-requires
     enum-known-e
     enum-known-colours
     cast-n
     cast-m
     mul-end
-    cast-t26
+    cast-t25
     array-share-prefix-rows
     slice-aggregate-ready
     ready-requires

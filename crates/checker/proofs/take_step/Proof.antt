@@ -13,7 +13,7 @@ use Rattle.state.proofs.update.Reads as update-reads
 
 evaluate-requires : tie.Need-evaluate-requires
 evaluate-requires c κs =
-    let s = c .before .before .before .before .before .before .before .before in
+    let s = c .before .before .before .before .before .before .before in
     let a = s .args in
     (steps-ready (netlist (a .size .colours) (a .size .channels) (a .size .components) (a .table .now)) (a .ends .now) (a .order .now) (a .state .now) (a .choices .now) (s .pre .0), s .pre .1)
 
@@ -22,12 +22,12 @@ slice-reshare-prefix-update c = search needs
 
 slice-aggregate-update : tie.Need-slice-aggregate-update
 slice-aggregate-update c =
-    let a = c .before .before .before .before .before .before .before .before .before .before .before .before .before .args in
+    let a = c .before .before .before .before .before .before .before .before .before .before .before .before .args in
     moves-long (netlist (a .size .colours) (a .size .channels) (a .size .components) (a .table .now)) (a .state .now) (a .choices .now) (a .moves .now) _ (c .before .before .before .before .evaluate .ensures)
 
 update-requires : tie.Need-update-requires
 update-requires c κs =
-    let s = c .before .before .before .before .before .before .before .before .before .before .before .before .before in
+    let s = c .before .before .before .before .before .before .before .before .before .before .before .before in
     let a = s .args in
     moves-fit (netlist (a .size .colours) (a .size .channels) (a .size .components) (a .table .now)) (a .state .now) (a .choices .now) (a .moves .now) _ (c .before .before .before .before .evaluate .ensures) (updatable (netlist (a .size .colours) (a .size .channels) (a .size .components) (a .table .now)) (a .ends .now) (a .order .now) (a .state .now) (a .choices .now) (s .pre .0))
 
@@ -39,7 +39,7 @@ same-length-2 c = search needs
 
 returns : tie.Need-returns
 returns c =
-    let a = c .before .before .before .before .before .before .before .before .before .before .before .before .before .before .before .before .args in
+    let a = c .before .before .before .before .before .before .before .before .before .before .before .before .before .before .before .args in
     let e = c .before .before .before .before .before .before .before .evaluate .ensures in
     (c .before .before .update .ensures ∙ next-from (netlist (a .size .colours) (a .size .channels) (a .size .components) (a .table .now)) (a .state .now) (a .choices .now) (a .moves .now) _ e, e)
 
