@@ -2,7 +2,7 @@
 use mathlib.Core.Path.{_≡_}
 use mathlib.Core.Bool.{Bool}
 use mathlib.Core.List.{List, [], _∷_}
-use Prim.Native.Nat.{ℕ, _*_, _%_, _≤_}
+use Prim.Native.Nat.{ℕ, _%_}
 use lib.ListN.{length}
 use lib.IntN.{ℤ, pos}
 use Rattle.component.specs.Netlist.{Netlist}

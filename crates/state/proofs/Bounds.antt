@@ -5,7 +5,7 @@ use mathlib.Core.List.{List}
 use Prim.Native.Nat.{ℕ, zero, suc, _+_, _*_, _/_, _≤_, _<_}
 use native.Mathlib.Omega.{arith}
 use lib.Dec.{ltb, lit<}
-use lib.ListN.{length, getD}
+use lib.ListN.{getD}
 use Rattle.order.specs.Values.{val}
 use Rattle.component.specs.Kind.{Kind, source, sink, queue, function, fork, join, switch, merge, Port, A, B, C}
 use Rattle.component.specs.Netlist.{Netlist, rowOf}

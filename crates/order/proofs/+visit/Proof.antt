@@ -1,7 +1,7 @@
 -- The proof of the cycle of calls {visit}. The measure is the remaining depth.
 -- The loop's invariant: the order is good, nothing has left it, s is not in it, and the entries of s that are passed are in it.
 -- Assumes nothing.
-use Prim.Native.Nat.{ℕ, suc, _+_, _*_, _-_, _<_, _≤_}
+use Prim.Native.Nat.{ℕ, suc, _+_, _-_, _<_, _≤_}
 use mathlib.Core.Path.{_≡_, _∙_}
 use mathlib.Core.Logic.{⊎-elim}
 use mathlib.Core.List.{List}
