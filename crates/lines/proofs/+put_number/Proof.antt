@@ -22,7 +22,6 @@ abbrev put-number-below : ℕ → In 1 put-number-kinds.ps
 put-number-below t =
     and 1 put-number-kinds.ps (falls 1 put-number-kinds.ps _<_ μ-put-number t) put-number.Pre
 
--- src/lib.rt:18:24
 put-number-cast-out :
     (t : ℕ) →
     put-number-lts.Need-cast-out
@@ -31,7 +30,6 @@ put-number-cast-out :
     put-number.Post
 put-number-cast-out t c = search needs
 
--- src/lib.rt:18:19
 put-number-add-out :
     (t : ℕ) →
     put-number-lts.Need-add-out
@@ -40,28 +38,24 @@ put-number-add-out :
     put-number.Post
 put-number-add-out t c = search needs
 
--- src/lib.rt:18:9
 put-number-slice-write-out : (t : ℕ) → put-number-lts.Need-slice-write-out (
   put-number-below t,
   put-number.Post,
 ) (put-number-at t) put-number.Post
 put-number-slice-write-out t c = search needs
 
--- src/lib.rt:19:16
 put-number-add-result : (t : ℕ) → put-number-lts.Need-add-result (
   put-number-below t,
   put-number.Post,
 ) (put-number-at t) put-number.Post
 put-number-add-result t c = search needs
 
--- src/lib.rt:19:9
 put-number-same-length : (t : ℕ) → put-number-lts.Need-same-length (
   put-number-below t,
   put-number.Post,
 ) (put-number-at t) put-number.Post
 put-number-same-length t c = search needs
 
--- src/lib.rt:19:9
 put-number-returns :
     (t : ℕ) →
     put-number-lts.Need-returns
@@ -72,28 +66,24 @@ put-number-returns t c =
     let b = c .before .before in
     put-few {m = 1} (rw (decimal-one (b .args .n) (c .if1 .taken)) (put-byte (b .args .out .now) (b .args .at) (48 + b .args .n))) 20 (decimal-few (b .args .n))
 
--- src/lib.rt:21:9
 put-number-put-number-requires : (t : ℕ) → put-number-lts.Need-put-number-requires (
   put-number-below t,
   put-number.Post,
 ) (put-number-at t) put-number.Post
 put-number-put-number-requires t c κs = search needs
 
--- src/lib.rt:22:22
 put-number-cast-out-2 : (t : ℕ) → put-number-lts.Need-cast-out-2 (
   put-number-below t,
   put-number.Post,
 ) (put-number-at t) put-number.Post
 put-number-cast-out-2 t c = search needs
 
--- src/lib.rt:22:17
 put-number-add-out-2 : (t : ℕ) → put-number-lts.Need-add-out-2 (
   put-number-below t,
   put-number.Post,
 ) (put-number-at t) put-number.Post
 put-number-add-out-2 t c = search needs
 
--- src/lib.rt:22:5
 put-number-slice-write-out-2 : (t : ℕ) → put-number-lts.Need-slice-write-out-2 (
   put-number-below t,
   put-number.Post,
@@ -103,21 +93,18 @@ put-number-slice-write-out-2 t c =
     let l : b .args .n / 10 < 10 ^ 19 = omega (arith, b .fits .n) in
     omega (arith, c .before .before .put-number .ensures .ends, c .before .before .put-number .ensures .long, decimal-short 18 (b .args .n / 10) l, b .pre .1)
 
--- src/lib.rt:23:5
 put-number-add-result-2 : (t : ℕ) → put-number-lts.Need-add-result-2 (
   put-number-below t,
   put-number.Post,
 ) (put-number-at t) put-number.Post
 put-number-add-result-2 t c = search needs
 
--- src/lib.rt:13:1
 put-number-same-length-2 : (t : ℕ) → put-number-lts.Need-same-length-2 (
   put-number-below t,
   put-number.Post,
 ) (put-number-at t) put-number.Post
 put-number-same-length-2 t c = search needs
 
--- src/lib.rt:13:1
 put-number-returns-2 : (t : ℕ) → put-number-lts.Need-returns-2 (
   put-number-below t,
   put-number.Post,

@@ -4,18 +4,13 @@ use native.Mathlib.Omega.{arith}
 use borrow.Author.Needs.{needs}
 use Rattle.lines.proofs.first.Statement.{statement}
 use Rattle.lines.proofs.first.Tie as tie
-use Rattle.lines.proofs.first.Reads as reads
-use Rattle.lines.proofs.first.Lts as lts
 
--- src/lib.rt:127:9
 returns : tie.Need-returns
 returns c = sym (take-all (c .before .args .most) (c .before .args .file .now) (omega arith))
 
--- src/lib.rt:129:5
 slice-aggregate-result : tie.Need-slice-aggregate-result
 slice-aggregate-result c = sym (length-take-le (c .before .before .args .most) (c .before .before .args .file .now) (omega arith))
 
--- src/lib.rt:123:1
 returns-2 : tie.Need-returns-2
 returns-2 c = search needs
 

@@ -6,30 +6,22 @@ use Rattle.lines.proofs.Signs.{one-more, magnitude-fits}
 use borrow.Author.Needs.{needs}
 use Rattle.lines.proofs.magnitude.Statement.{statement}
 use Rattle.lines.proofs.magnitude.Tie as tie
-use Rattle.lines.proofs.magnitude.Reads as reads
-use Rattle.lines.proofs.magnitude.Lts as lts
 
--- src/lib.rt:40:9
 cast-result : tie.Need-cast-result
 cast-result c = plain-cast (c .before .args .w) (c .before .fits .w) (c .if1 .taken)
 
--- src/lib.rt:42:10
 sub-result : tie.Need-sub-result
 sub-result c = down-fits (c .before .args .w) (c .before .fits .w) (c .if1 .left)
 
--- src/lib.rt:42:9
 cast-result-2 : tie.Need-cast-result-2
 cast-result-2 c = down-cast (c .before .args .w) (c .before .fits .w) (c .if1 .left)
 
--- src/lib.rt:42:9
 add-result : tie.Need-add-result
 add-result c = subst⁻¹ (Fits w64) (one-more (c .before .args .w) (c .before .fits .w) (c .if1 .left)) (magnitude-fits (c .before .args .w) (c .before .fits .w))
 
--- src/lib.rt:36:1
 returns : tie.Need-returns
 returns c = search needs
 
--- src/lib.rt:36:1
 returns-2 : tie.Need-returns-2
 returns-2 c = one-more (c .before .args .w) (c .before .fits .w) (c .if1 .left)
 

@@ -5,43 +5,30 @@ use Rattle.lines.proofs.Listing.{line-none, line-some}
 use borrow.Author.Needs.{needs}
 use Rattle.lines.proofs.put_weight.Statement.{statement}
 use Rattle.lines.proofs.put_weight.Tie as tie
-use Rattle.lines.proofs.put_weight.Reads as reads
-use Rattle.lines.proofs.put_weight.Lts as lts
-use Rattle.lines.proofs.put_byte.Reads as put-byte-reads
-use Rattle.lines.proofs.put_field.Reads as put-field-reads
-use Rattle.lines.proofs.put_signed.Reads as put-signed-reads
 
--- src/lib.rt:75:9
 returns : tie.Need-returns
 returns c =
     let b = c .before .before in
     rw (line-none (b .args .u) (b .args .w) (zero-bits (b .args .w) (b .fits .w .sfits) (c .if1 .taken))) (put-none 66 (b .args .out .now) (b .args .at))
 
--- src/lib.rt:77:9
 put-byte-requires : tie.Need-put-byte-requires
 put-byte-requires c κs = search needs
 
--- src/lib.rt:78:9
 put-field-requires : tie.Need-put-field-requires
 put-field-requires c κs = search needs
 
--- src/lib.rt:79:9
 put-field-requires-2 : tie.Need-put-field-requires-2
 put-field-requires-2 c κs = search needs
 
--- src/lib.rt:80:9
 put-signed-requires : tie.Need-put-signed-requires
 put-signed-requires c κs = search needs
 
--- src/lib.rt:81:5
 put-byte-requires-2 : tie.Need-put-byte-requires-2
 put-byte-requires-2 c κs = search needs
 
--- src/lib.rt:70:1
 same-length : tie.Need-same-length
 same-length c = search needs
 
--- src/lib.rt:70:1
 returns-2 : tie.Need-returns-2
 returns-2 c =
     let b = c .before .before .before .before .before .before .before .before .before .before .before .before .before .before .before .before .before .before .before .before .before .before in

@@ -10,9 +10,6 @@ use borrow.Author.Needs.{needs}
 use native.Mathlib.Omega.{arith}
 use Rattle.lines.proofs.put_weights.Statement.{statement}
 use Rattle.lines.proofs.put_weights.Tie as tie
-use Rattle.lines.proofs.put_weights.Reads as reads
-use Rattle.lines.proofs.put_weights.Lts as lts
-use Rattle.lines.proofs.put_weight.Reads as put-weight-reads
 
 abbrev Inv-loop : tie.InvT-loop
 Inv-loop out₀ weights at₀ u₀ out at u = (u ≤ length weights) × Put (30 * u) out₀ 0 (weightLines u (λ i. getD weights i (pos 0))) out at
@@ -20,42 +17,33 @@ Inv-loop out₀ weights at₀ u₀ out at u = (u ≤ length weights) × Put (30 
 abbrev μ-loop : tie.MeasureT-loop
 μ-loop out₀ weights at₀ u₀ out at u = length weights - u
 
--- src/lib.rt:91:5
 loop-holds : tie.Need-loop-holds Inv-loop μ-loop
 loop-holds c = (omega arith, rw lines-none (put-none 0 (c .before .args .out .now) 0))
 
--- src/lib.rt:92:43
 mul-put-weight : tie.Need-mul-put-weight Inv-loop μ-loop
 mul-put-weight c = search needs
 
--- src/lib.rt:92:43
 shared-slice-copy-out-put-weight : tie.Need-shared-slice-copy-out-put-weight Inv-loop μ-loop
 shared-slice-copy-out-put-weight c = search needs
 
--- src/lib.rt:92:9
 put-weight-requires : tie.Need-put-weight-requires Inv-loop μ-loop
 put-weight-requires c κs = search needs
 
--- src/lib.rt:93:9
 add-u : tie.Need-add-u Inv-loop μ-loop
 add-u c = search needs
 
--- src/lib.rt:91:5
 loop-less : tie.Need-loop-less Inv-loop μ-loop
 loop-less c = search needs
 
--- src/lib.rt:91:5
 loop-again : tie.Need-loop-again Inv-loop μ-loop
 loop-again c =
     let b = c .before .before .before .before .before .before .before .before in
     let l = c .before .before .before .before .before .before .loop in
     (omega arith, weights-more (λ i. getD (b .args .weights .now) i (pos 0)) (l .u) (record { sfits = c .before .before .before .put-weight-arg2 .given }) (omega (arith, b .pre)) (l .inv .1) (c .before .before .put-weight .ensures))
 
--- src/lib.rt:85:1
 same-length : tie.Need-same-length Inv-loop μ-loop
 same-length c = search needs
 
--- src/lib.rt:85:1
 returns : tie.Need-returns Inv-loop μ-loop
 returns c =
     let b = c .before .before .before in

@@ -2,69 +2,46 @@ use Rattle.lines.proofs.Text.{text-accepted, text-refused}
 use borrow.Author.Needs.{needs}
 use Rattle.lines.proofs.write_listing.Statement.{statement}
 use Rattle.lines.proofs.write_listing.Tie as tie
-use Rattle.lines.proofs.write_listing.Reads as reads
-use Rattle.lines.proofs.write_listing.Lts as lts
-use Rattle.checker.proofs.check.Reads as check-reads
-use Rattle.lines.proofs.first.Reads as first-reads
-use Rattle.lines.proofs.put_refusal.Reads as put-refusal-reads
-use Rattle.lines.proofs.put_sum.Reads as put-sum-reads
-use Rattle.lines.proofs.put_weights.Reads as put-weights-reads
-use Rattle.refusals.proofs.number_of.Reads as number-of-reads
-use Rattle.refusals.proofs.place_of.Reads as place-of-reads
 
--- src/lib.rt:139:28
 first-requires : tie.Need-first-requires
 first-requires c κs = search needs
 
--- src/lib.rt:139:49
 first-requires-2 : tie.Need-first-requires-2
 first-requires-2 c κs = search needs
 
--- src/lib.rt:139:70
 slice-aggregate-check : tie.Need-slice-aggregate-check
 slice-aggregate-check c = search needs
 
--- src/lib.rt:139:9
 check-requires : tie.Need-check-requires
 check-requires c κs = search needs
 
--- src/lib.rt:143:34
 enum-told : tie.Need-enum-told
 enum-told c = search needs
 
--- src/lib.rt:143:46
 slice-aggregate-put-weights : tie.Need-slice-aggregate-put-weights
 slice-aggregate-put-weights c = search needs
 
--- src/lib.rt:143:17
 put-weights-requires : tie.Need-put-weights-requires
 put-weights-requires c κs = search needs
 
--- src/lib.rt:144:13
 put-sum-requires : tie.Need-put-sum-requires
 put-sum-requires c κs = search needs
 
--- src/lib.rt:146:26
 enum-known-v : tie.Need-enum-known-v
 enum-known-v c = search needs
 
--- src/lib.rt:147:37
 number-of-requires : tie.Need-number-of-requires
 number-of-requires c κs = search needs
 
--- src/lib.rt:147:61
 place-of-requires : tie.Need-place-of-requires
 place-of-requires c κs = search needs
 
--- src/lib.rt:147:13
 put-refusal-requires : tie.Need-put-refusal-requires
 put-refusal-requires c κs = search needs
 
--- src/lib.rt:133:1
 same-length : tie.Need-same-length
 same-length c = search needs
 
--- src/lib.rt:133:1
 returns : tie.Need-returns
 returns c =
     let b = c .before .before .before .before .before .before .before .before .before .before .before .before .before .before .before .before .before .before .before .before in
@@ -73,11 +50,9 @@ returns c =
     (c .before .before .before .before .before .before .before .before .before .before .enum-told .given .1) (k .2) (search needs)
     (k .1) (record { sfits = c .before .before .before .struct-told .given .1 .0 .1 }) (c .before .before .before .before .before .before .before .put-weights .ensures) (c .before .before .put-sum .ensures)
 
--- src/lib.rt:133:1
 same-length-2 : tie.Need-same-length-2
 same-length-2 c = search needs
 
--- src/lib.rt:133:1
 returns-2 : tie.Need-returns-2
 returns-2 c =
     let b = c .before .before .before .before .before .before .before .before .before .before .before .before .before .before .before .before .before in
