@@ -64,7 +64,7 @@ put-number-returns :
     put-number.Post
 put-number-returns t c =
     let b = c .before .before in
-    put-few {m = 1} (rw (decimal-one (b .args .n) (c .if1 .taken)) (put-byte (b .args .out .now) (b .args .at) (48 + b .args .n))) 20 (decimal-few (b .args .n))
+    put-few {m = 1} (rw (decimal-one (b .args .n) (omega arith)) (put-byte (b .args .out .now) (b .args .at) (48 + b .args .n))) 20 (decimal-few (b .args .n))
 
 put-number-put-number-requires : (t : ℕ) → put-number-lts.Need-put-number-requires (
   put-number-below t,
