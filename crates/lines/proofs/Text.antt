@@ -15,12 +15,16 @@ use Rattle.refusals.specs.Refusals.{refusalNumber, refusalPlace}
 use Rattle.refusals.specs.declared.Refusal.{Refusal}
 use Rattle.refusals.specs.declared.Verdict.{Verdict}
 use Rattle.refusals.specs.declared.Verdict.the-variants.{Accepted, Refused}
+use Rattle.reader.specs.Reading.{reading}
+use Rattle.reader.specs.declared.Reading.the-variants.{Fabric}
+use Rattle.reader.proofs.Exists.{accepted-exists}
 use Rattle.flows.specs.Flows.{entry}
 use Rattle.flows.specs.Verdict.{upTo, tableBy}
 use Rattle.flows.proofs.Lists.{length-upTo}
 use Rattle.checker.specs.Calls.{netlistIn, checkVerdict, checkConstant, weightsAfterCheck}
+use Rattle.checker.proofs.Files.{netlist-is}
 use Rattle.checker.proofs.Bytes.{table-entry}
-use Rattle.lines.specs.Listing.{weightLines, sumLine, refusalLine, textBy, listingOf, listing}
+use Rattle.lines.specs.Listing.{weightLines, sumLine, refusalLine, room, textBy, listingOf, listing}
 use Rattle.lines.specs.Put.{Put}
 use Rattle.lines.proofs.Put.{put-then, put-whole}
 use Rattle.lines.proofs.Listing.{lines-same, lines-past}
@@ -87,3 +91,7 @@ module _ (fabric proof : List ℕ) {F P : List ℕ} (ef : F ≡ take 1669 fabric
     unfolding textBy
     text-accepted {k} ek f a b =
         is-listing (ap₂ _++_ lines-are (ap sumLine (toZ-ofZ w64 k f ∙ ek)) ∙ sym (text-by e)) (put-then a b) (omega arith)
+
+-- the table has room for the weights of every fabric that is read: the test of 23 is never met
+pub room-enough : (file : List ℕ) {C M N : ℕ} → reading file ≡ Fabric C M N → 8 * netlistIn file .components ≤ room
+room-enough file {C} {M} {N} e = rw (netlist-is file e) (omega (arith, accepted-exists file C M N e .2 .fewRows))
