@@ -26,9 +26,11 @@ use Rattle.flows.specs.Terms.{component, index, multiplier}
 use Rattle.flows.specs.Flows.{flowSum, weight, entry, acceptedSum, constant}
 use Rattle.flows.specs.Verdict.{badTerm, isLeft, isWeight, constantBy, upTo, tableBy}
 use Rattle.checker.specs.Calls.{netlistIn, startVerdict, stateAfterStart, stepVerdict, stateAfterStep, movesAfterStep, checkVerdict, checkConstant, weightsAfterCheck}
+use Rattle.lines.specs.Decimal.{spelled, decimal}
+use Rattle.lines.specs.Listing.{weightLine, weightLines, sumLine, textBy, listingOf, listing}
 use Rattle.cases.specs.CreditLoop.{creditTable, creditFile, forkIntoJoin}
 use Rattle.cases.specs.Starred.{starred, found, expected}
 
 pub all-starred : found starred ≡ expected starred
-unfolding starred creditTable creditFile forkIntoJoin packedFile headerBytes headerFields records recordBytes recordRow recordPad openTable firstBadRow firstBadRecord firstUnmatched endOf dependence dependsOn nearOf least count any walks hasCircle rowOk kindOf portOf portUse usesFirstMap usesSecondMap usesMask isSource isQueue packed netlistIn startVerdict stateAfterStart stepVerdict stateAfterStep movesAfterStep checkVerdict checkConstant weightsAfterCheck started cells startAt startCell cellWith coloursOf goodChoice choiceAt badChoice goodByte all goodCell badComponent cellNext nextAt stateNext next moves moved value val ruleOf rule sumTo isZero side hasIndex hasEquation factor component index multiplier flowSum weight entry acceptedSum constant badTerm isLeft isWeight constantBy upTo tableBy
+unfolding starred creditTable creditFile forkIntoJoin packedFile headerBytes headerFields records recordBytes recordRow recordPad openTable firstBadRow firstBadRecord firstUnmatched endOf dependence dependsOn nearOf least count any walks hasCircle rowOk kindOf portOf portUse usesFirstMap usesSecondMap usesMask isSource isQueue packed netlistIn startVerdict stateAfterStart stepVerdict stateAfterStep movesAfterStep checkVerdict checkConstant weightsAfterCheck started cells startAt startCell cellWith coloursOf goodChoice choiceAt badChoice goodByte all goodCell badComponent cellNext nextAt stateNext next moves moved value val ruleOf rule sumTo isZero side hasIndex hasEquation factor component index multiplier flowSum weight entry acceptedSum constant badTerm isLeft isWeight constantBy upTo tableBy spelled decimal weightLine weightLines sumLine textBy listingOf listing
 all-starred = refl

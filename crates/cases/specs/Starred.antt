@@ -8,19 +8,23 @@ use Rattle.refusals.specs.declared.Verdict.{Verdict}
 use Rattle.fabric.specs.Calls.{packed}
 use Rattle.balance.specs.Counts.{counts}
 use Rattle.checker.specs.Calls.{stateAfterStart, stepVerdict, stateAfterStep, movesAfterStep, checkVerdict, checkConstant, weightsAfterCheck}
+use Rattle.lines.specs.Decimal.{digit}
+use Rattle.lines.specs.Listing.{listing}
 use Rattle.cases.specs.CreditLoop.{creditFile, forkIntoJoin}
 
--- check with these terms; steps with these choices, from start; a step without any, from start with a byte of the state set; pack of a table
+-- check with these terms; the listing with them; steps with these choices, from start; a step without any, from start with a byte of the state set; pack of a table
 pub data Input : Type 0 where
   terms : List ℕ → Input
+  lists : List ℕ → Input
   steps : List (List ℕ) → Input
   changed : ℕ → ℕ → Input
   table : ℕ → List ℕ → Input
 
 -- number and place of the last call; of check K, then the weights; of a step what moved, then the counts of queues 2 and 5, then the first
--- bytes of the source and of the sink
+-- bytes of the source and of the sink; or the text of a listing
 pub data Answer : Type 0 where
   answer : ℕ → ℕ → List ℤ → List ℕ → List ℕ → Answer
+  prints : List ℕ → Answer
 
 abbrev saying : Verdict → List ℤ → List ℕ → List ℕ → Answer
 saying v = answer (numberOf v) (placeOf v)
@@ -46,6 +50,7 @@ atStart = stateAfterStart creditFile (replicate 384 7)
 
 abbrev pub answerTo : Input → Answer
 answerTo (terms p) = checked p
+answerTo (lists p) = prints (listing creditFile p)
 answerTo (steps choices) = steppedAll atStart choices
 answerTo (changed at byte) = stepped (set atStart at byte) (replicate 6 0)
 answerTo (table channels rows) = saying (packed 1 channels rows 1000) [] [] []
@@ -61,13 +66,25 @@ four = 4 ∷ 0 ∷ 0 ∷ 1 ∷ 10 ∷ 0 ∷ 0 ∷ 1 ∷ 2 ∷ 0 ∷ 0 ∷ 1 ∷ 
 abbrev sourceOn : List ℕ
 sourceOn = 1 ∷ 0 ∷ 0 ∷ 0 ∷ 0 ∷ 0 ∷ []
 
+abbrev five : List ℕ
+five = four ++ 7 ∷ 0 ∷ 0 ∷ 1 ∷ []
+
 abbrev zeros : ℕ → List ℤ
 zeros n = replicate n (pos 0)
 
+-- `Q q 0 1` and a newline, for q below 10
+abbrev line : ℕ → List ℕ
+line q = 81 ∷ 32 ∷ digit q ∷ 32 ∷ digit 0 ∷ 32 ∷ digit 1 ∷ 10 ∷ []
+
+-- `SUM k` and a newline, for k below 10
+abbrev sum : ℕ → List ℕ
+sum k = 83 ∷ 85 ∷ 77 ∷ 32 ∷ digit k ∷ 10 ∷ []
+
 unfoldable pub starred : List Case
 starred =
-    -- Q 2 0 1, Q 5 0 1, SUM 2
-    (terms (four ++ (7 ∷ 0 ∷ 0 ∷ 1 ∷ [])) gives answer 0 0 (pos 2 ∷ zeros 16 ++ (pos 1 ∷ zeros 23 ++ (pos 1 ∷ zeros 7))) [] [])
+    -- The listing prints Q 2 0 1, Q 5 0 1, SUM 2.
+    (lists five gives prints (line 2 ++ line 5 ++ sum 2))
+    ∷ (terms five gives answer 0 0 (pos 2 ∷ zeros 16 ++ (pos 1 ∷ zeros 23 ++ (pos 1 ∷ zeros 7))) [] [])
     -- Without the last term: 13, place 24. No terms: 14. Term (0,0,1) alone: 12, place 0.
     ∷ (terms four gives answer 13 24 (zeros 49) [] [])
     ∷ (terms [] gives answer 14 0 (zeros 49) [] [])

@@ -19,7 +19,7 @@ use Rattle.checker.specs.Calls.{netlistIn, kept, checkVerdict, bytesAfte
 use Rattle.checker.proofs.Files.{Opened}
 
 -- entry u of a table whose first m are given
-table-entry : {X : Type 0} (g : ℕ → X) (d : X) (m : ℕ) (s : List X) (u : ℕ) → u < m → getD (upTo m g ++ s) u d ≡ g u
+pub table-entry : {X : Type 0} (g : ℕ → X) (d : X) (m : ℕ) (s : List X) (u : ℕ) → u < m → getD (upTo m g ++ s) u d ≡ g u
 unfolding upTo
 table-entry g d zero s u h = absurd (omega arith)
 table-entry {X} g d (suc m) s u h = ap (λ (l : List X). getD l u d) (append-snoc (upTo m g) (g m) s) ∙ go (eq-or-lt-of-le (le-of-suc-le-suc h)) (table-entry g d m (g m ∷ s) u)

@@ -4,7 +4,7 @@ use reference::open_table::ROW;
 use reference::random::Random;
 
 use crate::case::Call;
-use crate::random_cases::damage_count;
+use crate::damaged_file::damage_count;
 use crate::random_fabrics::random_or_damaged_fabric;
 
 /// Values around the ends of the fields' ranges.

@@ -6,8 +6,11 @@ mod counts;
 mod crash;
 mod credit_loop_cases;
 mod damaged_choices;
+#[path = "../shared/damaged_fabric.rs"]
 mod damaged_fabric;
+#[path = "../shared/damaged_file.rs"]
 mod damaged_file;
+#[path = "../shared/damaged_proposal.rs"]
 mod damaged_proposal;
 mod damaged_state;
 mod damaged_table;
@@ -29,6 +32,7 @@ mod options;
 mod panel_cases;
 mod random_calls;
 mod random_cases;
+#[path = "../shared/random_fabrics.rs"]
 mod random_fabrics;
 mod random_lists;
 mod round_trip;

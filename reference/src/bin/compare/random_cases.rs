@@ -68,15 +68,6 @@ pub fn lent(random: &mut Random, bytes: Vec<u8>) -> Lent {
     Lent { bytes, guard }
 }
 
-/// How often a file or table is damaged once it is made.
-pub fn damage_count(random: &mut Random) -> usize {
-    match random.below(100) {
-        0..55 => 0,
-        55..91 => 1,
-        _ => random.between(2, 4),
-    }
-}
-
 /// Memory of any content that is as long as the result, or longer, or short.
 pub fn random_memory(random: &mut Random, exact: usize) -> Vec<u8> {
     let space = match random.below(100) {

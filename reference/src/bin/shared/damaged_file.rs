@@ -3,7 +3,6 @@
 use reference::packed::{file_length, repair_check_byte, HEADER, RECORD};
 use reference::random::Random;
 
-use crate::random_cases::damage_count;
 use crate::random_fabrics::random_or_damaged_fabric;
 
 /// Edition, colours, the 0 bit, components and channels.
@@ -28,6 +27,15 @@ pub fn random_file(random: &mut Random) -> Vec<u8> {
         repair_check_byte(&mut file);
     }
     file
+}
+
+/// How often a file or table is damaged once it is made.
+pub fn damage_count(random: &mut Random) -> usize {
+    match random.below(100) {
+        0..55 => 0,
+        55..91 => 1,
+        _ => random.between(2, 4),
+    }
 }
 
 fn bytes(random: &mut Random, most: usize) -> Vec<u8> {

@@ -1,0 +1,5 @@
+pub mod Decimal
+pub mod Put
+pub mod Signs
+pub mod Listing
+pub mod Text
