@@ -3,14 +3,17 @@
 use mathlib.Core.Path.{_≡_, refl}
 use mathlib.Core.List.{List, [], _∷_, _++_}
 use Prim.Native.Nat.{ℕ, _*_, _≤_}
-use lib.ListN.{length}
+use lib.ListN.{length, drop}
 use Rattle.digits.specs.Least.{least}
+use Rattle.digits.specs.UpTo.{upTo}
 use Rattle.record.specs.Table.{openTable, records}
 use Rattle.record.specs.Record.{recordRow, recordBytes}
 use Rattle.component.specs.Kind.{kindOf}
 use Rattle.component.specs.Netlist.{Netlist, netlist}
 use Rattle.reader.specs.Accepted.{AcceptedFabric, ReadOf}
 use Rattle.reader.specs.declared.Reading.{Reading}
+use Rattle.plan.specs.Plan.{planned}
+use Rattle.plan.proofs.Plan.{is-planned}
 use Rattle.fabric.specs.PackedFile.{headerBytes, packedFile}
 use Rattle.signals.specs.Signals.{moved, moves}
 use Rattle.signals.specs.Channels.{Ready}
@@ -44,8 +47,10 @@ module _ (f : Netlist) (ends order : List ℕ) (a : AcceptedFabric f ends order)
   pub steps-met : Steps f ends order (started f state) choices
   steps-met = record { accepted = a; good = good-start f ends order a state room; allowed = no-bad-choice f choices long none }
 
-  pub ready-met : Ready f ends order (started f state) choices
-  ready-met = steps-ready f ends order (started f state) choices steps-met
+  -- with a plan laid out in any memory that is long enough
+  pub ready-met : (memory : List ℕ) → 12 * f .channels ≤ length memory →
+      Ready f (upTo (12 * f .channels) (planned f order) ++ drop (12 * f .channels) memory) (started f state) choices
+  ready-met memory l = steps-ready f ends order (started f state) choices steps-met (is-planned a memory _ l refl)
 
   pub updatable-met : Updatable (f .table) (f .components) (started f state) choices (moves f (started f state) choices ++ [])
   updatable-met = updatable f ends order (started f state) choices steps-met []

@@ -24,7 +24,8 @@ use Rattle.state.specs.Step.{cellNext, nextAt, stateNext, next}
 use Rattle.equations.specs.Equations.{side, hasIndex, hasEquation, factor}
 use Rattle.flows.specs.Terms.{component, index, multiplier}
 use Rattle.flows.specs.Flows.{flowSum, weight, entry, acceptedSum, constant}
-use Rattle.flows.specs.Verdict.{badTerm, isLeft, isWeight, constantBy, upTo, tableBy}
+use Rattle.flows.specs.Verdict.{badTerm, isLeft, isWeight, constantBy, tableBy}
+use Rattle.digits.specs.UpTo.{upTo}
 use Rattle.checker.specs.Calls.{netlistIn, startVerdict, stateAfterStart, stepVerdict, stateAfterStep, movesAfterStep, checkVerdict, checkConstant, weightsAfterCheck}
 use Rattle.lines.specs.Decimal.{spelled, decimal}
 use Rattle.lines.specs.Listing.{weightLine, weightLines, sumLine, textBy, listingOf, listing}

@@ -13,8 +13,9 @@ use Rattle.refusals.specs.declared.Refusal.{Refusal}
 use Rattle.refusals.specs.declared.Verdict.{Verdict}
 use Rattle.refusals.specs.declared.Verdict.the-variants.{Accepted, Refused}
 use Rattle.flows.specs.Flows.{entry}
-use Rattle.flows.specs.Verdict.{judged, tableBy, upTo, byteOf, weightByte}
-use Rattle.flows.proofs.Lists.{length-upTo, upTo-cong}
+use Rattle.flows.specs.Verdict.{judged, tableBy, byteOf, weightByte}
+use Rattle.digits.specs.UpTo.{upTo}
+use Rattle.digits.proofs.UpTo.{length-upTo, upTo-cong}
 use Rattle.checker.specs.Calls.{netlistIn, kept, checkVerdict, bytesAfterCheck}
 use Rattle.checker.proofs.Files.{Opened}
 

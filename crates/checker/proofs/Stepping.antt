@@ -21,8 +21,9 @@ use Rattle.reader.specs.declared.Reading.the-variants.{Fabric, Rejected}
 use Rattle.fabric.specs.Steps.{roomFor}
 use Rattle.fabric.proofs.Unpacked.{space-last}
 use Rattle.signals.specs.Signals.{moves, moved}
-use Rattle.signals.proofs.Moves.{tab-length}
+use Rattle.digits.proofs.UpTo.{length-upTo}
 use Rattle.reader.specs.Accepted.{AcceptedFabric}
+use Rattle.plan.specs.Plan.{Planned}
 use Rattle.signals.specs.Signals.{cell}
 use Rattle.component.specs.Netlist.{rowOf}
 use Rattle.state.specs.Good.{goodCell, badComponent, Good}
@@ -33,7 +34,7 @@ use Rattle.state.specs.Start.{started}
 use Rattle.state.specs.Step.{next, stateNext, Steps}
 use Rattle.state.specs.Updatable.{Updatable}
 use Rattle.checker.specs.Calls.{netlistIn, kept, shortState, startVerdict, stateAfterStart, stepVerdict, stateAfterStep, movesAfterStep}
-use Rattle.checker.specs.Steps.{readyTests}
+use Rattle.checker.specs.Steps.{readyTests, Along}
 use Rattle.checker.proofs.Files.{rest-refused, rest-judged, Opened}
 
 -- ---- one step
@@ -41,11 +42,11 @@ module _ (f : Netlist) (state choices out after : List ℕ) (e : after ≡ moves
   -- what moved stands in front
   pub moves-front : take (f .channels) after ≡ moves f state choices
   unfolding moves
-  moves-front = ap (take (f .channels)) e ∙ take-at (moves f state choices) (drop (f .channels) out) (f .channels) (tab-length (moved f state choices) (f .channels))
+  moves-front = ap (take (f .channels)) e ∙ take-at (moves f state choices) (drop (f .channels) out) (f .channels) (length-upTo (moved f state choices) (f .channels))
 
   pub moves-long : f .channels ≡ length (take (f .channels) after)
   unfolding moves
-  moves-long = sym (ap length moves-front ∙ tab-length (moved f state choices) (f .channels))
+  moves-long = sym (ap length moves-front ∙ length-upTo (moved f state choices) (f .channels))
 
   pub moves-fit : ((rest : List ℕ) → Updatable (f .table) (f .components) state choices (moves f state choices ++ rest)) → Updatable (f .table) (f .components) state choices (take (f .channels) after)
   moves-fit u = subst (Updatable (f .table) (f .components) state choices) (append-nil (moves f state choices) ∙ sym moves-front) (u [])
@@ -53,6 +54,14 @@ module _ (f : Netlist) (state choices out after : List ℕ) (e : after ≡ moves
   pub next-from : stateNext f state choices (take (f .channels) after) ≡ next f state choices
   unfolding next
   next-from = ap (stateNext f state choices) moves-front
+
+-- along the plan's own order
+pub along-steps : {f : Netlist} {plan state choices : List ℕ} (a : Along f plan state choices) → Steps f (a .planned .ends) (a .planned .order) state choices
+along-steps a = record { accepted = a .planned .accepted; good = a .good; allowed = a .allowed }
+
+-- a step along a plan that is laid out for it
+pub steps-along : {f : Netlist} {ends order plan state choices : List ℕ} → Steps f ends order state choices → Planned f plan → Along f plan state choices
+steps-along t p = record { planned = p; good = t .good; allowed = t .allowed }
 
 -- ---- 21, 22, 9 and 10
 module _ (f : Netlist) (state choices : List ℕ) (uneven : Bool) where

@@ -5,6 +5,7 @@ use Prim.Native.Nat.{ℕ, zero, suc, _*_, _/_, _%_}
 use lib.Dec.{ltb, eqb}
 use lib.ListN.{length, take, drop}
 use lib.IntN.{ℤ}
+use Rattle.digits.specs.UpTo.{upTo}
 use Rattle.record.specs.Table.{openTable}
 use Rattle.component.specs.Netlist.{Netlist, netlist}
 use Rattle.refusals.specs.Refusals.{Test, test, firstRefusal}
@@ -18,7 +19,7 @@ use Rattle.state.specs.Choices.{badChoice}
 use Rattle.state.specs.Start.{started}
 use Rattle.state.specs.Step.{next}
 use Rattle.flows.specs.Flows.{entry}
-use Rattle.flows.specs.Verdict.{judgeTests, constantBy, tableBy, upTo, weightByte}
+use Rattle.flows.specs.Verdict.{judgeTests, constantBy, tableBy, weightByte}
 
 -- the netlist of a file
 unfoldable pub netlistIn : List ℕ → Netlist

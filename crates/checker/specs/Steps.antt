@@ -9,8 +9,9 @@ use Rattle.component.specs.Netlist.{Netlist}
 use Rattle.refusals.specs.Refusals.{Test, test}
 use Rattle.refusals.specs.declared.Refusal.the-variants.{Choices}
 use Rattle.reader.specs.Accepted.{AcceptedFabric}
+use Rattle.plan.specs.Plan.{Planned}
 use Rattle.state.specs.Good.{Good}
-use Rattle.state.specs.Choices.{badChoice}
+use Rattle.state.specs.Choices.{Allowed, badChoice}
 use Rattle.checker.specs.Calls.{shortState, badState, wrongChoice}
 use Rattle.refusals.specs.declared.Verdict.{Verdict}
 use Rattle.refusals.specs.declared.Verdict.the-variants.{Accepted, Refused}
@@ -23,6 +24,12 @@ orZero (Refused r) k = pos 0
 -- the tests 21, 22, 9 and 10, where the number of choices is wrong or not
 abbrev pub readyTests : Netlist → List ℕ → List ℕ → Bool → List Test
 readyTests f state choices uneven = shortState f (length state) ∷ badState f state ∷ test Choices uneven ∷ wrongChoice f choices ∷ []
+
+-- a plan of an accepted fabric, a good state and allowed choices
+pub record Along (f : Netlist) (plan state choices : List ℕ) : Type 0 where
+  pub planned : Planned f plan
+  pub good : Good f state
+  pub allowed : Allowed f choices
 
 -- an accepted fabric, a good state, and whole steps' choices, all allowed
 pub record Runs (f : Netlist) (ends order state choices : List ℕ) : Type 0 where

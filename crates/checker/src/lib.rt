@@ -6,10 +6,10 @@ ghost use lib.ListN.{length, drop};
 ghost use Rattle.component.specs.Netlist.{netlist};
 ghost use Rattle.refusals.specs.Refusals.{firstRefusal};
 ghost use Rattle.fabric.specs.Steps.{roomFor};
-ghost use Rattle.signals.specs.Signals as signals;
+ghost use Rattle.signals.specs.Signals as step;
 ghost use Rattle.state.specs.Step.{next, Steps};
 ghost use Rattle.checker.specs.Calls.{startVerdict, stateAfterStart, stepVerdict, stateAfterStep, movesAfterStep, afterSteps, runVerdict, stateAfterRun, checkVerdict, checkConstant, weightsAfterCheck, bytesAfterCheck};
-ghost use Rattle.checker.specs.Steps.{readyTests, Runs, orZero};
+ghost use Rattle.checker.specs.Steps.{readyTests, Along, Runs, orZero};
 use component::Size;
 use flows::Judgement;
 use reader::Reading;
@@ -77,17 +77,39 @@ fn ready(table: &[u8], size: Size, state: &[u8], choices: &[u8], uneven: bool) -
     if bad < size.components {
         return Verdict::Refused(Refusal::Cell(bad));
     }
+    let wrong = good::first_bad_choice(table, size, choices);
     if uneven {
         return Verdict::Refused(Refusal::Choices);
     }
-    let wrong = good::first_bad_choice(table, size, choices);
     if wrong < choices.len() {
         return Verdict::Refused(Refusal::Choice(wrong));
     }
     Verdict::Accepted
 }
 
-// Takes a step: works out what moves, and writes the state after it.
+// Takes a step along a plan: works out what moves, and writes the state after it.
+fn step_along(
+    table: &[u8],
+    size: Size,
+    plan: &[u16],
+    state: &mut [u8],
+    choices: &[u8],
+    signals: &mut [u8],
+    moves: &mut [u8],
+)
+    requires { ⌜ Along (netlist (size .colours) (size .channels) (size .components) (now table)) (now plan) (now state) (now choices)
+        × (2 * size .channels ≤ length (now signals)) × (size .channels ≤ length (now moves)) ⌝ }
+    ensures { λ _. ⌜ (now (state .exit) ≡ next (netlist (size .colours) (size .channels) (size .components) (now (table .entry))) (now (state .entry)) (now (choices .entry)))
+        × (now (moves .exit) ≡ step.moves (netlist (size .colours) (size .channels) (size .components) (now (table .entry))) (now (state .entry)) (now (choices .entry))
+        ++ drop (size .channels) (now (moves .entry))) ⌝ }
+{
+    signals::evaluate(table, size, plan, &state[..], choices, &mut *signals);
+    let m = size.channels;
+    signals::write_moves(&signals[..], m, &mut *moves);
+    state::update(table, size, &mut *state, choices, &moves[..m]);
+}
+
+// Takes one step.
 fn take_step(
     table: &[u8],
     ends: &[u16],
@@ -100,12 +122,21 @@ fn take_step(
     requires { ⌜ Steps (netlist (size .colours) (size .channels) (size .components) (now table)) (now ends) (now order) (now state) (now choices)
         × (size .channels ≤ length (now moves)) ⌝ }
     ensures { λ _. ⌜ (now (state .exit) ≡ next (netlist (size .colours) (size .channels) (size .components) (now (table .entry))) (now (state .entry)) (now (choices .entry)))
-        × (now (moves .exit) ≡ signals.moves (netlist (size .colours) (size .channels) (size .components) (now (table .entry))) (now (state .entry)) (now (choices .entry))
+        × (now (moves .exit) ≡ step.moves (netlist (size .colours) (size .channels) (size .components) (now (table .entry))) (now (state .entry)) (now (choices .entry))
         ++ drop (size .channels) (now (moves .entry))) ⌝ }
 {
-    signals::evaluate(table, ends, size, order, &state[..], choices, &mut *moves);
-    let m = size.channels;
-    state::update(table, size, &mut *state, choices, &moves[..m]);
+    let mut plan = [0u16; 3060];
+    let mut signals = [0u8; 510];
+    plan::lay_out(table, ends, size, order, &mut plan);
+    step_along(
+        table,
+        size,
+        &plan,
+        &mut *state,
+        choices,
+        &mut signals,
+        &mut *moves,
+    );
 }
 
 // What step answers, with so much space for the moves.
@@ -163,7 +194,8 @@ pub fn step(file: &[u8], state: &mut [u8], choices: &[u8], moves: &mut [u8]) -> 
                 components: n,
             };
             let v = ready(&rows[..end], size, &state[..], choices, uneven);
-            match fabric::room_for(v, moves.len(), m) {
+            let verdict = fabric::room_for(v, moves.len(), m);
+            match verdict {
                 Verdict::Refused(r) => Verdict::Refused(r),
                 Verdict::Accepted => {
                     take_step(
@@ -175,7 +207,7 @@ pub fn step(file: &[u8], state: &mut [u8], choices: &[u8], moves: &mut [u8]) -> 
                         choices,
                         &mut *moves,
                     );
-                    Verdict::Accepted
+                    verdict
                 }
             }
         }
@@ -195,6 +227,9 @@ fn run_steps(
     ensures { λ _. ⌜ now (state .exit) ≡ afterSteps (netlist (size .colours) (size .channels) (size .components) (now (table .entry)))
         (length (now (choices .entry)) / size .components) (now (choices .entry)) (now (state .entry)) ⌝ }
 {
+    let mut plan = [0u16; 3060];
+    plan::lay_out(table, ends, size, order, &mut plan);
+    let mut signals = [0u8; 510];
     let mut moves = [0u8; 255];
     let n = size.components;
     let steps = choices.len() / n;
@@ -202,13 +237,13 @@ fn run_steps(
     let mut j: usize = 0;
     while j < steps {
         let end = at + n;
-        take_step(
+        step_along(
             table,
-            ends,
             size,
-            order,
+            &plan,
             &mut *state,
             &choices[at..end],
+            &mut signals,
             &mut moves,
         );
         at = end;
@@ -312,8 +347,7 @@ pub fn check_answer(file: &[u8], proposal: &[u8], space: usize) -> Judgement
                 channels: channels as usize,
                 components: n,
             };
-            let mut spare = [0i64; 1024];
-            let j = flows::judge(&rows[..end], size, proposal, &mut spare);
+            let j = flows::verdict_on(&rows[..end], size, proposal);
             with_room(j, space, 8 * n)
         }
     }
@@ -343,8 +377,7 @@ pub fn check(file: &[u8], proposal: &[u8], weights: &mut [i64]) -> Judgement
                 components: n,
             };
             if weights.len() < 8 * n {
-                let mut spare = [0i64; 1024];
-                let j = flows::judge(&rows[..end], size, proposal, &mut spare);
+                let j = flows::verdict_on(&rows[..end], size, proposal);
                 return with_room(j, weights.len(), 8 * n);
             }
             flows::judge(&rows[..end], size, proposal, &mut *weights)

@@ -1,7 +1,6 @@
 pub mod Bounds
 pub mod Terms
 pub mod Sums
-pub mod Lists
 pub mod Verdict
 pub mod Steps
 pub mod Exactly

@@ -21,9 +21,10 @@ use Rattle.refusals.specs.declared.Verdict.{Verdict}
 use Rattle.refusals.specs.declared.Verdict.the-variants.{Accepted, Refused}
 use Rattle.flows.specs.Terms.{terms}
 use Rattle.flows.specs.Flows.{flowSum, weight, entry, acceptedSum, startCount, constant}
-use Rattle.flows.specs.Verdict.{badTerm, firstBadTerm, isLeft, lowestLeft, isWeight, judged, constantBy, tableBy, upTo, ReadFabric}
+use Rattle.flows.specs.Verdict.{badTerm, firstBadTerm, isLeft, lowestLeft, isWeight, judged, constantBy, tableBy, ReadFabric}
 use Rattle.flows.specs.Sums.{Added, Gathered, notZero, shareOf}
-use Rattle.flows.proofs.Lists.{upTo-cong}
+use Rattle.digits.specs.UpTo.{upTo}
+use Rattle.digits.proofs.UpTo.{upTo-cong}
 use Rattle.flows.proofs.Sums.{flows-sum, counts-sum}
 
 -- ---- what the tables tell

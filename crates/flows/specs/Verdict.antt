@@ -2,7 +2,7 @@
 use mathlib.Core.Path.{_≡_}
 use mathlib.Core.Bool.{Bool, false, not, _&&_, _||_}
 use mathlib.Core.List.{List, [], _∷_, _++_}
-use Prim.Native.Nat.{ℕ, zero, suc, _*_, _/_, _%_, _^_, _≤_, _<_}
+use Prim.Native.Nat.{ℕ, _*_, _/_, _%_, _^_, _≤_, _<_}
 use lib.Dec.{ltb, eqb}
 use lib.ListN.{length, drop}
 use lib.IntN.{ℤ, pos}
@@ -10,6 +10,7 @@ use mir.Syntax.{w64}
 use mir.Val.{ofZ}
 use Rattle.integers.specs.Sum.{isZero}
 use Rattle.digits.specs.Least.{least}
+use Rattle.digits.specs.UpTo.{upTo}
 use Rattle.component.specs.Facts.{RowFacts}
 use Rattle.component.specs.Netlist.{Netlist, rowOf}
 use Rattle.refusals.specs.Refusals.{Test, test, firstRefusal}
@@ -70,11 +71,6 @@ SomeWeight f p = (q : ℕ) × (d : ℕ) × (q < f .components) × (d < f .colour
 unfoldable pub constantBy : Verdict → Netlist → List ℕ → ℤ
 constantBy Accepted f p = constant f p
 constantBy (Refused r) f p = pos 0
-
--- the first n values of a function
-unfoldable pub upTo : {X : Type 0} → ℕ → (ℕ → X) → List X
-upTo zero g = []
-upTo (suc n) g = upTo n g ++ (g n ∷ [])
 
 -- the lent table after a verdict: 8N entries, or as it was
 unfoldable pub tableBy : Verdict → Netlist → List ℕ → List ℤ → List ℤ

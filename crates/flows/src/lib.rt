@@ -14,6 +14,7 @@ ghost use mir.Val.{ofZ};
 ghost use Rattle.integers.specs.Sum.{same, sumTo};
 ghost use Rattle.integers.specs.Tables.{Near, Grown, Summed};
 ghost use Rattle.digits.specs.Least.{least};
+ghost use Rattle.digits.specs.UpTo.{upTo};
 ghost use Rattle.digits.specs.Packed.{joined, bytes};
 ghost use Rattle.record.specs.Table.{row};
 ghost use Rattle.component.specs.Row.{fillColour};
@@ -21,7 +22,7 @@ ghost use Rattle.refusals.specs.declared.Verdict.the-variants.{Refused};
 ghost use Rattle.equations.specs.Equations.{hasEquation, factor};
 ghost use Rattle.equations.specs.Numbers.{isKnown, mappedFactor, allFactor, factorOf, numbered, InTable};
 ghost use Rattle.flows.specs.Terms.{terms, signed, component, index, multiplier};
-ghost use Rattle.flows.specs.Verdict.{firstBadTerm, judged, constantBy, tableBy, upTo, byteOf, weightByte, ReadFabric};
+ghost use Rattle.flows.specs.Verdict.{firstBadTerm, judged, constantBy, tableBy, byteOf, weightByte, ReadFabric};
 ghost use Rattle.flows.specs.Sums.{netlistOf, nameFactor, countOf, Gathered, Joined, KnownTo, notZero, shareOf};
 
 // A term of a proposal.
@@ -414,10 +415,21 @@ pub fn judge(table: &[u8], size: Size, proposal: &[u8], weights: &mut [i64]) -> 
         return refused(Refusal::Weightless);
     }
     write_entries(weights, &w, 8 * size.components);
+    let k = constant_of(&w, table, size);
     Judgement {
         verdict: Verdict::Accepted,
-        constant: constant_of(&w, table, size),
+        constant: k,
     }
+}
+
+// The same where nobody asks for the weights.
+pub fn verdict_on(table: &[u8], size: Size, proposal: &[u8]) -> Judgement
+    requires { ⌜ ReadFabric (netlistOf size (now table)) ⌝ }
+    ensures verdict { λ r. ⌜ r .verdict ≡ judged (netlistOf size (now (table .entry))) (now (proposal .entry)) ⌝ }
+    ensures constant { λ r. ⌜ r .constant ≡ constantBy (judged (netlistOf size (now (table .entry))) (now (proposal .entry))) (netlistOf size (now (table .entry))) (now (proposal .entry)) ⌝ }
+{
+    let mut weights = [0i64; 1024];
+    judge(table, size, proposal, &mut weights)
 }
 
 // The bits of a signed number, in two's complement.

@@ -13,7 +13,7 @@ use mir.Val.{SFits, toZ, ofZ}
 use mir.ValLaws.{toZ-ofZ}
 use Rattle.integers.specs.Sum.{isZero}
 use Rattle.integers.proofs.Sum.{is-zero}
-use Rattle.lines.specs.Decimal.{decimal, integer}
+use Rattle.lines.specs.Decimal.{integer}
 use Rattle.lines.specs.Listing.{field, weightLine, weightLines}
 use Rattle.lines.specs.Put.{Put}
 use Rattle.lines.proofs.Put.{put-then, put-few}

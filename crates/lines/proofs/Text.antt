@@ -1,16 +1,15 @@
 -- What each way through `write_listing` leaves is the text. Assumes nothing.
-use mathlib.Core.Path.{_≡_, refl, sym, ap, ap₂, _∙_, subst}
-use mathlib.Core.List.{List, [], _∷_, _++_}
+use mathlib.Core.Path.{_≡_, sym, ap, ap₂, _∙_, subst}
+use mathlib.Core.List.{List, _++_}
 use Prim.Native.Nat.{ℕ, _+_, _*_, _-_, _≤_, _<_}
 use native.Mathlib.Decide.{decLt}
 use native.Mathlib.Omega.{arith}
-use lib.ListN.{length, getD, take, drop, replicate, length-append, length-drop, length-replicate, getD-replicate, List·getD-eq-default}
+use lib.ListN.{length, getD, take, drop, replicate, length-append, length-replicate, getD-replicate, List·getD-eq-default}
 use lib.Seq.{getD-drop, getD-append-add}
 use lib.IntN.{ℤ, pos}
 use mir.Syntax.{w64}
 use mir.Val.{SFits, toZ, ofZ}
 use mir.ValLaws.{toZ-ofZ}
-use Rattle.component.specs.Netlist.{Netlist}
 use Rattle.refusals.specs.Refusals.{refusalNumber, refusalPlace}
 use Rattle.refusals.specs.declared.Refusal.{Refusal}
 use Rattle.refusals.specs.declared.Verdict.{Verdict}
@@ -19,8 +18,9 @@ use Rattle.reader.specs.Reading.{reading}
 use Rattle.reader.specs.declared.Reading.the-variants.{Fabric}
 use Rattle.reader.proofs.Exists.{accepted-exists}
 use Rattle.flows.specs.Flows.{entry}
-use Rattle.flows.specs.Verdict.{upTo, tableBy}
-use Rattle.flows.proofs.Lists.{length-upTo}
+use Rattle.digits.specs.UpTo.{upTo}
+use Rattle.digits.proofs.UpTo.{length-upTo}
+use Rattle.flows.specs.Verdict.{tableBy}
 use Rattle.checker.specs.Calls.{netlistIn, checkVerdict, checkConstant, weightsAfterCheck}
 use Rattle.checker.proofs.Files.{netlist-is}
 use Rattle.checker.proofs.Bytes.{table-entry}

@@ -5,7 +5,6 @@ use Prim.Native.Nat.{ℕ, zero, suc, _*_, _/_, _%_}
 use lib.ListN.{take}
 use lib.IntN.{ℤ, pos}
 use Rattle.integers.specs.Sum.{isZero}
-use Rattle.component.specs.Netlist.{Netlist}
 use Rattle.refusals.specs.Refusals.{refusalNumber, refusalPlace}
 use Rattle.refusals.specs.declared.Verdict.{Verdict}
 use Rattle.refusals.specs.declared.Verdict.the-variants.{Accepted, Refused}

@@ -2,3 +2,4 @@ pub mod Values
 pub mod Ports
 pub mod Rules
 pub mod Seen
+pub mod Bounds

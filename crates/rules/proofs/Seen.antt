@@ -1,86 +1,120 @@
--- The rule at a port, from what the code works out for its kind. Assumes nothing.
-use mathlib.Core.Path.{_≡_}
-use mathlib.Core.List.{List, []}
-use Prim.Native.Nat.{ℕ, suc, _+_}
+-- The rule of each number, from what the code works out for it. Assumes nothing.
+use mathlib.Core.Path.{_≡_, refl}
+use mathlib.Core.Bool.{true, false≢true}
+use mathlib.Core.List.{List}
+use Prim.Native.Nat.{ℕ, zero, suc, _+_, _<_}
+use native.Mathlib.Omega.{arith}
 use lib.ListN.{getD}
 use lib.Dec.{ltb}
-use Rattle.component.specs.Kind.{fork, join, switch, merge, kindOf, portOf}
-use Rattle.component.specs.Row.{kindNumber, kind, capacity}
-use Rattle.rules.specs.declared.Channel.{Channel}
-use Rattle.rules.specs.Rules.{numberOf, bit, when, offered, orElse, mapped, component, rule}
-use Rattle.rules.specs.Seen.{seen, seenOf, Offers, Takes}
-use Rattle.rules.proofs.Ports.{kind-rest, source-out, sink-out, queue-out, function-out, join-out, merge-out, source-in, sink-in, queue-in, function-in, fork-in, switch-in}
+use Rattle.component.specs.Kind.{fork, join, switch, merge, kindOf, portOf, portUse, isUsed}
+use Rattle.component.specs.Row.{capacity}
+use Rattle.rules.specs.Rules.{bit, when, offered, orElse, mapped, component, rule}
+use Rattle.rules.specs.Seen.{seen, ruleOf, useOf, Offers, Takes}
 
--- a kind that is none of the first seven
+module _ (row cell : List ℕ) (pick oa ob tb tc r : ℕ) where
+  abbrev Ruled : ℕ → Type 0
+  Ruled n = r ≡ ruleOf n (component row cell pick) (seen oa ob tb tc)
+
+  pub source-a : r ≡ orElse (getD cell 0 0) pick → Ruled 0
+  unfolding rule kindOf portOf portUse
+  source-a q = q
+
+  pub sink-a : r ≡ offered (orElse (getD cell 0 0) pick) → Ruled 3
+  unfolding rule kindOf portOf portUse
+  sink-a q = q
+
+  pub queue-a : r ≡ bit (ltb (getD cell 0 0) (capacity row)) → Ruled 6
+  unfolding rule kindOf portOf portUse
+  queue-a q = q
+
+  pub queue-b : r ≡ when (getD cell 0 0) (suc (getD cell 1 0)) → Ruled 7
+  unfolding rule kindOf portOf portUse
+  queue-b q = q
+
+  pub function-a : r ≡ tb → Ruled 9
+  unfolding rule kindOf portOf portUse
+  function-a q = q
+
+  pub function-b : r ≡ mapped (λ d. getD row (4 + d) 0) oa → Ruled 10
+  unfolding rule kindOf portOf portUse
+  function-b q = q
+
+  pub fork-a : r ≡ when tb tc → Ruled 12
+  unfolding rule kindOf portOf portUse
+  fork-a q = q
+
+  pub fork-b : ((s : List ℕ) (p o : ℕ) → Offers fork 1 (component row s p) (seen oa o tb tc) r) → Ruled 13
+  unfolding kindOf portOf portUse
+  fork-b q = q cell pick ob refl
+
+  pub fork-c : ((s : List ℕ) (p o : ℕ) → Offers fork 2 (component row s p) (seen oa o tb tc) r) → Ruled 14
+  unfolding kindOf portOf portUse
+  fork-c q = q cell pick ob refl
+
+  pub join-a : ((w s : List ℕ) (p t : ℕ) → Takes join 0 (component w s p) (seen oa ob t tc) r) → Ruled 15
+  unfolding kindOf portOf portUse
+  join-a q = q row cell pick tb refl
+
+  pub join-b : ((w s : List ℕ) (p t : ℕ) → Takes join 1 (component w s p) (seen oa ob t tc) r) → Ruled 16
+  unfolding kindOf portOf portUse
+  join-b q = q row cell pick tb refl
+
+  pub join-c : ((s : List ℕ) (p t u : ℕ) → r ≡ rule join (portOf 2) (component row s p) (seen oa ob t u)) → Ruled 17
+  unfolding kindOf portOf portUse
+  join-c q = q cell pick tb tc
+
+  pub switch-a : ((s : List ℕ) (p o : ℕ) → r ≡ rule switch (portOf 0) (component row s p) (seen oa o tb tc)) → Ruled 18
+  unfolding kindOf portOf portUse
+  switch-a q = q cell pick ob
+
+  pub switch-b : ((s : List ℕ) (p o t u : ℕ) → Offers switch 1 (component row s p) (seen oa o t u) r) → Ruled 19
+  unfolding kindOf portOf portUse
+  switch-b q = q cell pick ob tb tc refl
+
+  pub switch-c : ((s : List ℕ) (p o t u : ℕ) → Offers switch 2 (component row s p) (seen oa o t u) r) → Ruled 20
+  unfolding kindOf portOf portUse
+  switch-c q = q cell pick ob tb tc refl
+
+  pub merge-a : ((w s : List ℕ) (t : ℕ) → Takes merge 0 (component w s pick) (seen oa ob t tc) r) → Ruled 21
+  unfolding kindOf portOf portUse
+  merge-a q = q row cell tb refl
+
+  pub merge-b : ((w s : List ℕ) (t : ℕ) → Takes merge 1 (component w s pick) (seen oa ob t tc) r) → Ruled 22
+  unfolding kindOf portOf portUse
+  merge-b q = q row cell tb refl
+
+  pub merge-c : ((w s : List ℕ) (t u : ℕ) → r ≡ rule merge (portOf 2) (component w s pick) (seen oa ob t u)) → Ruled 23
+  unfolding kindOf portOf portUse
+  merge-c q = q row cell tb tc
+
+-- the last arm of a `match` on a rule's number
 abbrev pub Rest : ℕ → Type 0
-Rest k = (k ≡ 0 → ⊥) × (k ≡ 1 → ⊥) × (k ≡ 2 → ⊥) × (k ≡ 3 → ⊥) × (k ≡ 4 → ⊥) × (k ≡ 5 → ⊥) × (k ≡ 6 → ⊥)
+Rest n = (n ≡ 0 → ⊥) × (n ≡ 3 → ⊥) × (n ≡ 6 → ⊥) × (n ≡ 7 → ⊥) × (n ≡ 9 → ⊥) × (n ≡ 10 → ⊥) × (n ≡ 12 → ⊥) × (n ≡ 13 → ⊥) × (n ≡ 14 → ⊥) × (n ≡ 15 → ⊥) × (n ≡ 16 → ⊥) × (n ≡ 17 → ⊥) × (n ≡ 18 → ⊥) × (n ≡ 19 → ⊥) × (n ≡ 20 → ⊥) × (n ≡ 21 → ⊥) × (n ≡ 22 → ⊥)
 
-module _ (row cell : List ℕ) (pick port : ℕ) (a b c : Channel) (r : ℕ) where
-  abbrev Offer : Type 0
-  Offer = Offers (kind row) port (component row cell pick) (seenOf a b c) r
-
-  pub source-offer : kindNumber row ≡ 0 → r ≡ orElse (getD cell 0 0) pick → Offer
-  unfolding rule kindOf
-  source-offer e q = rw e (λ h. rw (source-out _ h) q)
-
-  pub sink-offer : kindNumber row ≡ 1 → Offer
-  unfolding kindOf
-  sink-offer e = rw e (λ h. absurd (sink-out _ h))
-
-  pub queue-offer : kindNumber row ≡ 2 → r ≡ when (getD cell 0 0) (suc (getD cell 1 0)) → Offer
-  unfolding rule kindOf
-  queue-offer e q = rw e (λ h. rw (queue-out _ h) q)
-
-  pub function-offer : kindNumber row ≡ 3 → r ≡ mapped (λ d. getD row (4 + d) 0) (numberOf (a .offer)) → Offer
-  unfolding rule kindOf
-  function-offer e q = rw e (λ h. rw (function-out _ h) q)
-
-  pub fork-offer : kindNumber row ≡ 4 → ((s : List ℕ) (p ob : ℕ) → Offers fork port (component row s p) (seen (numberOf (a .offer)) ob (bit (b .take)) (bit (c .take))) r) → Offer
-  unfolding kindOf
-  fork-offer e q = rw e (λ h. q cell pick (numberOf (b .offer)) h)
-
-  pub join-offer : kindNumber row ≡ 5 → ((s : List ℕ) (p tb tc : ℕ) → r ≡ rule join (portOf 2) (component row s p) (seen (numberOf (a .offer)) (numberOf (b .offer)) tb tc)) → Offer
-  unfolding rule kindOf portOf
-  join-offer e q = rw e (λ h. rw (join-out _ h) (q [] 0 0 0))
-
-  pub switch-offer : kindNumber row ≡ 6 → ((s : List ℕ) (p ob tb tc : ℕ) → Offers switch port (component row s p) (seen (numberOf (a .offer)) ob tb tc) r) → Offer
-  unfolding kindOf
-  switch-offer e q = rw e (λ h. q cell pick (numberOf (b .offer)) (bit (b .take)) (bit (c .take)) h)
-
-  pub merge-offer : Rest (kindNumber row) → ((w s : List ℕ) (tb tc : ℕ) → r ≡ rule merge (portOf 2) (component w s pick) (seen (numberOf (a .offer)) (numberOf (b .offer)) tb tc)) → Offer
-  unfolding rule portOf
-  merge-offer n q = rw (kind-rest _ (n .0) (n .1) (n .2) (n .3) (n .4) (n .5) (n .6)) (λ h. rw (merge-out _ h) (q [] [] 0 0))
-
-  abbrev Take : Type 0
-  Take = Takes (kind row) port (component row cell pick) (seenOf a b c) r
-
-  pub source-take : kindNumber row ≡ 0 → Take
-  unfolding kindOf
-  source-take e = rw e (λ h. absurd (source-in _ h))
-
-  pub sink-take : kindNumber row ≡ 1 → r ≡ offered (orElse (getD cell 0 0) pick) → Take
-  unfolding rule kindOf
-  sink-take e q = rw e (λ h. rw (sink-in _ h) q)
-
-  pub queue-take : kindNumber row ≡ 2 → r ≡ bit (ltb (getD cell 0 0) (capacity row)) → Take
-  unfolding rule kindOf
-  queue-take e q = rw e (λ h. rw (queue-in _ h) q)
-
-  pub function-take : kindNumber row ≡ 3 → r ≡ bit (b .take) → Take
-  unfolding rule kindOf
-  function-take e q = rw e (λ h. rw (function-in _ h) q)
-
-  pub fork-take : kindNumber row ≡ 4 → r ≡ when (bit (b .take)) (bit (c .take)) → Take
-  unfolding rule kindOf
-  fork-take e q = rw e (λ h. rw (fork-in _ h) q)
-
-  pub join-take : kindNumber row ≡ 5 → ((w s : List ℕ) (p tb : ℕ) → Takes join port (component w s p) (seen (numberOf (a .offer)) (numberOf (b .offer)) tb (bit (c .take))) r) → Take
-  unfolding kindOf
-  join-take e q = rw e (λ h. q row cell pick (bit (b .take)) h)
-
-  pub switch-take : kindNumber row ≡ 6 → ((s : List ℕ) (p ob : ℕ) → r ≡ rule switch (portOf 0) (component row s p) (seen (numberOf (a .offer)) ob (bit (b .take)) (bit (c .take)))) → Take
-  unfolding rule kindOf portOf
-  switch-take e q = rw e (λ h. rw (switch-in _ h) (q [] 0 0))
-
-  pub merge-take : Rest (kindNumber row) → ((w s : List ℕ) (tb : ℕ) → Takes merge port (component w s pick) (seen (numberOf (a .offer)) (numberOf (b .offer)) tb (bit (c .take))) r) → Take
-  merge-take n q = rw (kind-rest _ (n .0) (n .1) (n .2) (n .3) (n .4) (n .5) (n .6)) (λ h. q row cell (bit (b .take)) h)
+pub last-rule : (n : ℕ) → n < 24 → isUsed (useOf n) ≡ true → Rest n → n ≡ 23
+unfolding kindOf portOf portUse
+last-rule zero h u r = absurd (r .0 refl)
+last-rule (suc (zero)) h u r = absurd (false≢true u)
+last-rule (suc (suc (zero))) h u r = absurd (false≢true u)
+last-rule (suc (suc (suc (zero)))) h u r = absurd (r .1 refl)
+last-rule (suc (suc (suc (suc (zero))))) h u r = absurd (false≢true u)
+last-rule (suc (suc (suc (suc (suc (zero)))))) h u r = absurd (false≢true u)
+last-rule (suc (suc (suc (suc (suc (suc (zero))))))) h u r = absurd (r .2 refl)
+last-rule (suc (suc (suc (suc (suc (suc (suc (zero)))))))) h u r = absurd (r .3 refl)
+last-rule (suc (suc (suc (suc (suc (suc (suc (suc (zero))))))))) h u r = absurd (false≢true u)
+last-rule (suc (suc (suc (suc (suc (suc (suc (suc (suc (zero)))))))))) h u r = absurd (r .4 refl)
+last-rule (suc (suc (suc (suc (suc (suc (suc (suc (suc (suc (zero))))))))))) h u r = absurd (r .5 refl)
+last-rule (suc (suc (suc (suc (suc (suc (suc (suc (suc (suc (suc (zero)))))))))))) h u r = absurd (false≢true u)
+last-rule (suc (suc (suc (suc (suc (suc (suc (suc (suc (suc (suc (suc (zero))))))))))))) h u r = absurd (r .6 refl)
+last-rule (suc (suc (suc (suc (suc (suc (suc (suc (suc (suc (suc (suc (suc (zero)))))))))))))) h u r = absurd (r .7 refl)
+last-rule (suc (suc (suc (suc (suc (suc (suc (suc (suc (suc (suc (suc (suc (suc (zero))))))))))))))) h u r = absurd (r .8 refl)
+last-rule (suc (suc (suc (suc (suc (suc (suc (suc (suc (suc (suc (suc (suc (suc (suc (zero)))))))))))))))) h u r = absurd (r .9 refl)
+last-rule (suc (suc (suc (suc (suc (suc (suc (suc (suc (suc (suc (suc (suc (suc (suc (suc (zero))))))))))))))))) h u r = absurd (r .10 refl)
+last-rule (suc (suc (suc (suc (suc (suc (suc (suc (suc (suc (suc (suc (suc (suc (suc (suc (suc (zero)))))))))))))))))) h u r = absurd (r .11 refl)
+last-rule (suc (suc (suc (suc (suc (suc (suc (suc (suc (suc (suc (suc (suc (suc (suc (suc (suc (suc (zero))))))))))))))))))) h u r = absurd (r .12 refl)
+last-rule (suc (suc (suc (suc (suc (suc (suc (suc (suc (suc (suc (suc (suc (suc (suc (suc (suc (suc (suc (zero)))))))))))))))))))) h u r = absurd (r .13 refl)
+last-rule (suc (suc (suc (suc (suc (suc (suc (suc (suc (suc (suc (suc (suc (suc (suc (suc (suc (suc (suc (suc (zero))))))))))))))))))))) h u r = absurd (r .14 refl)
+last-rule (suc (suc (suc (suc (suc (suc (suc (suc (suc (suc (suc (suc (suc (suc (suc (suc (suc (suc (suc (suc (suc (zero)))))))))))))))))))))) h u r = absurd (r .15 refl)
+last-rule (suc (suc (suc (suc (suc (suc (suc (suc (suc (suc (suc (suc (suc (suc (suc (suc (suc (suc (suc (suc (suc (suc (zero))))))))))))))))))))))) h u r = absurd (r .16 refl)
+last-rule (suc (suc (suc (suc (suc (suc (suc (suc (suc (suc (suc (suc (suc (suc (suc (suc (suc (suc (suc (suc (suc (suc (suc (zero)))))))))))))))))))))))) h u r = refl
+last-rule (suc (suc (suc (suc (suc (suc (suc (suc (suc (suc (suc (suc (suc (suc (suc (suc (suc (suc (suc (suc (suc (suc (suc (suc (n))))))))))))))))))))))))) h u r = absurd (omega arith)

@@ -1,7 +1,7 @@
 // The rules of the eight kinds.
 ghost use mathlib.Core.Path.{_≡_};
 ghost use mathlib.Core.List.{List};
-ghost use Prim.Native.Nat.{ℕ, suc, _+_, _≤_};
+ghost use Prim.Native.Nat.{ℕ, suc, _+_, _-_, _≤_, _<_};
 ghost use lib.ListN.{length, getD};
 ghost use lib.Dec.{ltb};
 ghost use Rattle.component.specs.Kind.{fork, join, switch, merge, portOf};
@@ -117,19 +117,38 @@ pub fn both(p: bool, q: bool) -> bool
     false
 }
 
+// The colour of an offer, 0 for none.
+fn colour_of(o: Offer) -> usize
+    ensures { λ r. ⌜ (r ≡ numberOf o - 1) × (r < 256) ⌝ }
+{
+    match o {
+        Offer::Colour(d) => d as usize,
+        Offer::Nothing => 0,
+    }
+}
+
+// Entry j of a row, 0 past its end: read without a branch, so that it takes the same time either way.
+fn entry_at(row: &[u8], j: usize) -> u8
+    requires { ⌜ length (now row) ≡ 24 ⌝ }
+    ensures { λ r. ⌜ r ≡ getD (now (row .entry)) j 0 ⌝ }
+{
+    let i = if j < 24 { j } else { 23 };
+    let entry = row[i];
+    if j < 24 {
+        return entry;
+    }
+    0
+}
+
 // The offer with its colour mapped, by the map at place `at` of the row.
 pub fn map_from(row: &[u8], at: usize, o: Offer) -> Offer
     requires { ⌜ (length (now row) ≡ 24) × (at ≤ 16) ⌝ }
     ensures { λ r. ⌜ numberOf r ≡ mapped (λ d. getD (now (row .entry)) (at + d) 0) (numberOf o) ⌝ }
 {
+    let j = at + colour_of(o);
+    let entry = entry_at(row, j);
     match o {
-        Offer::Colour(d) => {
-            let j = at + d as usize;
-            if j < 24 {
-                return Offer::Colour(row[j]);
-            }
-            Offer::Colour(0)
-        }
+        Offer::Colour(_) => Offer::Colour(entry),
         Offer::Nothing => Offer::Nothing,
     }
 }
@@ -193,10 +212,11 @@ pub fn queue_offer(cell: &[u8]) -> Offer
     ensures { λ r. ⌜ numberOf r ≡ when (getD (now (cell .entry)) 0 0) (suc (getD (now (cell .entry)) 1 0)) ⌝ }
 {
     let n = cell[0];
+    let front = cell[1];
     if n == 0 {
         return Offer::Nothing;
     }
-    Offer::Colour(cell[1])
+    Offer::Colour(front)
 }
 
 // Queue: takes if not full at the step's beginning.

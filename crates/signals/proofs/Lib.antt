@@ -1,4 +1,4 @@
 pub mod Signals
 pub mod Channels
+pub mod Found
 pub mod Moves
-pub mod Parts

@@ -1,42 +1,47 @@
--- The signals in an array of channels, and what the code asks for to work them out.
+-- The signals in memory, two numbers a channel, and what the code asks for to work them out. It describes the code.
 use mathlib.Core.Path.{_≡_}
-use mathlib.Core.Bool.{Bool, true, false}
+use mathlib.Core.Bool.{true}
 use mathlib.Core.List.{List}
-use Prim.Native.Nat.{ℕ, _*_, _/_, _≤_, _<_}
+use Prim.Native.Nat.{ℕ, _+_, _*_, _≤_, _<_}
 use lib.ListN.{length, getD}
+use Rattle.component.specs.Kind.{isUsed}
 use Rattle.component.specs.Netlist.{Netlist}
-use Rattle.wiring.specs.Signals.{isOffer}
-use Rattle.rules.specs.declared.Offer.the-variants.{Nothing}
-use Rattle.rules.specs.declared.Channel.{Channel}
-use Rattle.rules.specs.Rules.{when, bit, numberOf}
-use Rattle.reader.specs.Accepted.{AcceptedFabric}
+use Rattle.wiring.specs.Signals.{Near}
+use Rattle.rules.specs.Rules.{when, component}
+use Rattle.rules.specs.Seen.{seen, ruleOf, useOf}
+use Rattle.plan.specs.Plan.{Planned}
 use Rattle.signals.specs.Signals.{value}
 
--- one of a channel's two signals: its offer (true) or its take (false)
-abbrev pub half : Bool → Channel → ℕ
-half true c = numberOf (c .offer)
-half false c = bit (c .take)
+-- what a rule sees of the channels at ports A, B and C
+abbrev pub seenAt : List ℕ → ℕ → ℕ → ℕ → Near → ℕ
+seenAt signals a b c = seen (getD signals (2 * a) 0) (getD signals (2 * b) 0) (getD signals (2 * b + 1) 0) (getD signals (2 * c + 1) 0)
 
-abbrev pub none : Channel
-none = record { offer = Nothing; take = false }
+-- what moves on channel x
+abbrev pub movedIn : List ℕ → ℕ → ℕ
+movedIn signals x = when (getD signals (2 * x + 1) 0) (getD signals (2 * x) 0)
 
--- signal s in an array of channels, and what moves on channel x
-abbrev pub valueIn : List Channel → ℕ → ℕ
-valueIn chs s = half (isOffer s) (getD chs (s / 2) none)
+-- a channel whose signals are in memory
+pub record There (signals : List ℕ) (x : ℕ) : Type 0 where
+  pub few : x < 256
+  pub room : 2 * x + 1 < length signals
+  pub flag : getD signals (2 * x + 1) 0 ≤ 1
 
-abbrev pub movedIn : List Channel → ℕ → ℕ
-movedIn chs x = when (bit (getD chs x none .take)) (numberOf (getD chs x none .offer))
+-- the rule of number n can be worked out, and its signal fits a byte
+pub record Readable (n : ℕ) (signals row cell : List ℕ) (pick a b c : ℕ) : Type 0 where
+  pub rows : length row ≡ 24
+  pub cells : length cell ≡ 64
+  pub below : n < 24
+  pub used : isUsed (useOf n) ≡ true
+  pub atA : There signals a
+  pub atB : There signals b
+  pub atC : There signals c
+  pub small : ruleOf n (component row cell pick) (seenAt signals a b c) ≤ 8
 
--- each channel's two signals are the fabric's
-pub record Valued (f : Netlist) (state choices : List ℕ) (chs : List Channel) : Type 0 where
-  pub long : length chs ≡ 256
-  pub values : (s : ℕ) → s < 2 * f .channels → valueIn chs s ≡ value f state choices s
-
--- An accepted fabric with its state and choices. The reader establishes `accepted`; `states` and `chosen` hold once a call
+-- A plan of an accepted fabric, with its state and choices. plan::lay_out establishes `planned`; `states` and `chosen` hold once a call
 -- is not refused by 21 and 9; `small` holds in every good state under allowed choices, where no signal is above the
 -- count of colours.
-pub record Ready (f : Netlist) (ends order state choices : List ℕ) : Type 0 where
-  pub accepted : AcceptedFabric f ends order
+pub record Ready (f : Netlist) (plan state choices : List ℕ) : Type 0 where
+  pub planned : Planned f plan
   pub states : 64 * f .components ≤ length state
   pub chosen : length choices ≡ f .components
   pub small : (s : ℕ) → s < 2 * f .channels → value f state choices s ≤ 8

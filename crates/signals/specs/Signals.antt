@@ -1,9 +1,10 @@
 -- All signals of a fabric in a state under choices, and what moves.
-use mathlib.Core.List.{List, [], _∷_, _++_}
+use mathlib.Core.List.{List}
 use Prim.Native.Nat.{ℕ, zero, suc, _+_, _*_, _/_}
 use mathlib.Core.Bool.{cond}
 use lib.ListN.{getD, take, drop}
 use lib.Dec.{eqb}
+use Rattle.digits.specs.UpTo.{upTo}
 use Rattle.order.specs.Values.{val}
 use Rattle.component.specs.Kind.{Port}
 use Rattle.component.specs.Row.{kind}
@@ -46,11 +47,6 @@ along rules order (suc i) s = cond (eqb s (getD order i 0)) (rules s (along rule
 unfoldable pub moved : Netlist → List ℕ → List ℕ → ℕ → ℕ
 moved f state choices x = when (value f state choices (2 * x + 1)) (value f state choices (2 * x))
 
--- g 0, g 1, .., g (m - 1)
-abbrev pub tabulate : (ℕ → ℕ) → ℕ → List ℕ
-tabulate g zero = []
-tabulate g (suc m) = tabulate g m ++ (g m ∷ [])
-
 -- Step writes M bytes: 0, or 1 + colour moved.
 unfoldable pub moves : Netlist → List ℕ → List ℕ → List ℕ
-moves f state choices = tabulate (moved f state choices) (f .channels)
+moves f state choices = upTo (f .channels) (moved f state choices)

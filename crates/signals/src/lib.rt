@@ -1,198 +1,223 @@
-// All signals of a fabric, worked out one by one along an order, and what moves.
+// All signals of a fabric, worked out one by one along a plan, and what moves. In memory they are numbers, two a channel: its offer,
+// then its take.
 ghost use mathlib.Core.Path.{_≡_};
 ghost use mathlib.Core.List.{_++_};
-ghost use Prim.Native.Nat.{suc, _+_, _*_, _≤_, _<_};
-ghost use lib.ListN.{length, drop};
-ghost use Rattle.record.specs.Table.{row};
-ghost use Rattle.component.specs.Kind.{portOf};
-ghost use Rattle.component.specs.Row.{kind, port};
+ghost use Prim.Native.Nat.{_+_, _*_, _≤_, _<_};
+ghost use lib.ListN.{length, getD, drop};
+ghost use Rattle.digits.specs.UpTo.{upTo};
 ghost use Rattle.component.specs.Netlist.{netlist};
-ghost use Rattle.rules.specs.Rules.{numberOf, bit, when, component};
-ghost use Rattle.signals.specs.Signals.{cell};
-ghost use Rattle.signals.specs.Signals as signals;
-ghost use Rattle.signals.specs.Channels.{Ready};
+ghost use Rattle.rules.specs.Rules.{numberOf, bit, when, offered, component};
+ghost use Rattle.rules.specs.Seen.{ruleOf};
+ghost use Rattle.signals.specs.Signals.{value};
+ghost use Rattle.signals.specs.Channels.{seenAt, movedIn, Readable, Ready};
 use component::Size;
 use rules::Channel;
 use rules::Offer;
 
-fn wide(n: u16) -> usize
-    ensures { λ r. ⌜ r ≡ n ⌝ }
+// The number of an offer; 0 for a colour of 255, which no fabric has.
+fn number_of(o: Offer) -> u8
+    ensures { λ r. ⌜ (numberOf o ≤ 255 → r ≡ numberOf o) ⌝ }
 {
-    n as usize
-}
-
-// The end before the one that is noted.
-fn end_before(n: u16) -> usize
-    requires { ⌜ 0 < n ⌝ }
-    ensures { λ r. ⌜ suc r ≡ n ⌝ }
-{
-    n as usize - 1
-}
-
-// The channels at a component's ports.
-struct Ports {
-    a: usize,
-    b: usize,
-    c: usize,
-}
-
-fn ports_of(table: &[u8], k: usize) -> Ports
-    requires { ⌜ (k < 128) × (24 * k + 24 ≤ length (now table)) ⌝ }
-    ensures { λ r. ⌜ (r .a ≡ port (row (now (table .entry)) k) (portOf 0)) × (r .b ≡ port (row (now (table .entry)) k) (portOf 1)) ×
-        (r .c ≡ port (row (now (table .entry)) k) (portOf 2)) × (r .a < 256) × (r .b < 256) × (r .c < 256) ⌝ }
-{
-    let f = 24 * k;
-    let a = table[f + 1];
-    let b = table[f + 2];
-    let c = table[f + 3];
-    Ports {
-        a: a as usize,
-        b: b as usize,
-        c: c as usize,
+    match o {
+        Offer::Colour(d) => {
+            if d < 255 {
+                return d + 1;
+            }
+            0
+        }
+        Offer::Nothing => 0,
     }
 }
 
-// What moves on a channel: 0, or 1 + the colour.
-fn moved_on(c: Channel) -> u8
-    requires { ⌜ numberOf (c .offer) ≤ 8 ⌝ }
-    ensures { λ r. ⌜ r ≡ when (bit (c .take)) (numberOf (c .offer)) ⌝ }
+fn bit_of(t: bool) -> u8
+    ensures { λ r. ⌜ r ≡ bit t ⌝ }
 {
-    let o = c.offer;
-    if c.take {
-        match o {
-            Offer::Colour(d) => return d + 1,
-            Offer::Nothing => return 0,
-        }
+    if t {
+        return 1;
     }
     0
 }
 
-// Works out all signals one by one along the order, and writes what moves on each channel.
+// The offer on channel x.
+fn offer_at(signals: &[u8], x: usize) -> Offer
+    requires { ⌜ (x < 256) × (2 * x + 1 < length (now signals)) ⌝ }
+    ensures { λ r. ⌜ numberOf r ≡ getD (now (signals .entry)) (2 * x) 0 ⌝ }
+{
+    rules::offer_of_byte(signals[2 * x])
+}
+
+// Whether channel x is taken.
+fn take_at(signals: &[u8], x: usize) -> bool
+    requires { ⌜ (x < 256) × (2 * x + 1 < length (now signals)) ⌝ }
+    ensures { λ r. ⌜ bit r ≡ offered (getD (now (signals .entry)) (2 * x + 1) 0) ⌝ }
+{
+    signals[2 * x + 1] != 0
+}
+
+// The two signals of channel x.
+fn channel_at(signals: &[u8], x: usize) -> Channel
+    requires { ⌜ (x < 256) × (2 * x + 1 < length (now signals)) ⌝ }
+    ensures { λ r. ⌜ (numberOf (r .offer) ≡ getD (now (signals .entry)) (2 * x) 0) × (bit (r .take) ≡ offered (getD (now (signals .entry)) (2 * x + 1) 0)) ⌝ }
+{
+    let o = offer_at(signals, x);
+    let t = take_at(signals, x);
+    Channel { offer: o, take: t }
+}
+
+// What moves on a channel: 0, or 1 + the colour.
+fn moved_on(c: Channel) -> u8
+    ensures { λ r. ⌜ (numberOf (c .offer) ≤ 255 → r ≡ when (bit (c .take)) (numberOf (c .offer))) ⌝ }
+{
+    let o = c.offer;
+    if c.take {
+        return number_of(o);
+    }
+    0
+}
+
+// The signal that a rule gives, from its component and the channels at the component's ports.
+fn signal(
+    rule: u16,
+    signals: &[u8],
+    row: &[u8],
+    cell: &[u8],
+    pick: u8,
+    pa: usize,
+    pb: usize,
+    pc: usize,
+) -> u8
+    requires { ⌜ Readable rule (now signals) (now row) (now cell) pick pa pb pc ⌝ }
+    ensures { λ r. ⌜ r ≡ ruleOf rule (component (now (row .entry)) (now (cell .entry)) pick) (seenAt (now (signals .entry)) pa pb pc) ⌝ }
+{
+    match rule {
+        // Source.
+        0 => number_of(rules::source_offer(cell, pick)),
+        // Sink.
+        3 => bit_of(rules::sink_take(cell, pick)),
+        // Queue.
+        6 => bit_of(rules::queue_take(row, cell)),
+        7 => number_of(rules::queue_offer(cell)),
+        // Function.
+        9 => bit_of(take_at(signals, pb)),
+        10 => number_of(rules::map_from(row, 4, offer_at(signals, pa))),
+        // Fork.
+        12 => bit_of(rules::both(take_at(signals, pb), take_at(signals, pc))),
+        13 => number_of(rules::fork_offer(
+            row,
+            1,
+            offer_at(signals, pa),
+            take_at(signals, pb),
+            take_at(signals, pc),
+        )),
+        14 => number_of(rules::fork_offer(
+            row,
+            2,
+            offer_at(signals, pa),
+            take_at(signals, pb),
+            take_at(signals, pc),
+        )),
+        // Join.
+        15 => bit_of(rules::join_take(
+            0,
+            offer_at(signals, pa),
+            offer_at(signals, pb),
+            take_at(signals, pc),
+        )),
+        16 => bit_of(rules::join_take(
+            1,
+            offer_at(signals, pa),
+            offer_at(signals, pb),
+            take_at(signals, pc),
+        )),
+        17 => number_of(rules::join_offer(row, offer_at(signals, pa), offer_at(signals, pb))),
+        // Switch.
+        18 => bit_of(rules::switch_take(
+            row,
+            offer_at(signals, pa),
+            take_at(signals, pb),
+            take_at(signals, pc),
+        )),
+        19 => number_of(rules::switch_offer(row, 1, offer_at(signals, pa))),
+        20 => number_of(rules::switch_offer(row, 2, offer_at(signals, pa))),
+        // Merge.
+        21 => bit_of(rules::merge_take(
+            pick,
+            0,
+            offer_at(signals, pa),
+            offer_at(signals, pb),
+            take_at(signals, pc),
+        )),
+        22 => bit_of(rules::merge_take(
+            pick,
+            1,
+            offer_at(signals, pa),
+            offer_at(signals, pb),
+            take_at(signals, pc),
+        )),
+        _ => number_of(rules::merge_offer(pick, offer_at(signals, pa), offer_at(signals, pb))),
+    }
+}
+
+// No signal yet.
+fn clear(signals: &mut [u8], n: usize)
+    requires { ⌜ n ≤ length (now signals) ⌝ }
+    ensures { λ _. ⌜ now (signals .exit) ≡ upTo n (λ s. 0) ++ drop n (now (signals .entry)) ⌝ }
+{
+    let mut s: usize = 0;
+    while s < n {
+        signals[s] = 0;
+        s += 1;
+    }
+}
+
+// Works out all signals one by one along the plan's order.
 pub fn evaluate(
     table: &[u8],
-    ends: &[u16],
     size: Size,
-    order: &[u16; 510],
+    plan: &[u16],
     state: &[u8],
     choices: &[u8],
-    moves: &mut [u8],
+    signals: &mut [u8],
 )
-    requires { ⌜ Ready (netlist (size .colours) (size .channels) (size .components) (now table)) (now ends) (now order) (now state) (now choices) ⌝ }
-    requires { ⌜ size .channels ≤ length (now moves) ⌝ }
-    ensures { λ _. ⌜ now (moves .exit) ≡
-        signals.moves (netlist (size .colours) (size .channels) (size .components) (now (table .entry))) (now (state .entry)) (now (choices .entry))
-        ++ drop (size .channels) (now (moves .entry)) ⌝ }
+    requires { ⌜ Ready (netlist (size .colours) (size .channels) (size .components) (now table)) (now plan) (now state) (now choices) ⌝ }
+    requires { ⌜ 2 * size .channels ≤ length (now signals) ⌝ }
+    ensures { λ _. ⌜ now (signals .exit) ≡
+        upTo (2 * size .channels) (value (netlist (size .colours) (size .channels) (size .components) (now (table .entry))) (now (state .entry)) (now (choices .entry)))
+        ++ drop (2 * size .channels) (now (signals .entry)) ⌝ }
 {
-    let mut chs = [Channel {
-        offer: Offer::Nothing,
-        take: false,
-    }; 256];
-    let mut i = 0;
+    clear(&mut *signals, 2 * size.channels);
+    let mut i: usize = 0;
     while i < 2 * size.channels {
-        let s = wide(order[i]);
-        let x = s / 2;
-        let e = end_before(ends[s]);
-        let k = e / 3;
-        let port = e % 3;
-        let ports = ports_of(table, k);
-        let pa = ports.a;
-        let pb = ports.b;
-        let pc = ports.c;
+        let place = plan::place_at(plan, i);
+        let s = place.signal;
+        let k = place.component;
         let row_at = 24 * k;
         let cell_at = 64 * k;
         let row_end = row_at + 24;
         let cell_end = cell_at + 64;
-        let row = &table[row_at..row_end];
-        let cell = &state[cell_at..cell_end];
-        let pick = choices[k];
-        let kind = row[0];
-        if s % 2 == 0 {
-            let o = match kind {
-                0 => rules::source_offer(cell, pick),
-                1 => Offer::Nothing,
-                2 => rules::queue_offer(cell),
-                3 => {
-                    let a = chs[pa];
-                    let ao = a.offer;
-                    rules::map_from(row, 4, ao)
-                }
-                4 => {
-                    let a = chs[pa];
-                    let b = chs[pb];
-                    let c = chs[pc];
-                    let ao = a.offer;
-                    rules::fork_offer(row, port, ao, b.take, c.take)
-                }
-                5 => {
-                    let a = chs[pa];
-                    let b = chs[pb];
-                    let ao = a.offer;
-                    let bo = b.offer;
-                    rules::join_offer(row, ao, bo)
-                }
-                6 => {
-                    let a = chs[pa];
-                    let ao = a.offer;
-                    rules::switch_offer(row, port, ao)
-                }
-                _ => {
-                    let a = chs[pa];
-                    let b = chs[pb];
-                    let ao = a.offer;
-                    let bo = b.offer;
-                    rules::merge_offer(pick, ao, bo)
-                }
-            };
-            let old = chs[x];
-            chs[x] = Channel {
-                offer: o,
-                take: old.take,
-            };
-        } else {
-            let t = match kind {
-                0 => false,
-                1 => rules::sink_take(cell, pick),
-                2 => rules::queue_take(row, cell),
-                3 => {
-                    let b = chs[pb];
-                    b.take
-                }
-                4 => {
-                    let b = chs[pb];
-                    let c = chs[pc];
-                    rules::both(b.take, c.take)
-                }
-                5 => {
-                    let a = chs[pa];
-                    let b = chs[pb];
-                    let c = chs[pc];
-                    let ao = a.offer;
-                    let bo = b.offer;
-                    rules::join_take(port, ao, bo, c.take)
-                }
-                6 => {
-                    let a = chs[pa];
-                    let b = chs[pb];
-                    let c = chs[pc];
-                    let ao = a.offer;
-                    rules::switch_take(row, ao, b.take, c.take)
-                }
-                _ => {
-                    let a = chs[pa];
-                    let b = chs[pb];
-                    let c = chs[pc];
-                    let ao = a.offer;
-                    let bo = b.offer;
-                    rules::merge_take(pick, port, ao, bo, c.take)
-                }
-            };
-            chs[x].take = t;
-        }
+        let v = signal(
+            place.rule,
+            &signals[..],
+            &table[row_at..row_end],
+            &state[cell_at..cell_end],
+            choices[k],
+            place.a,
+            place.b,
+            place.c,
+        );
+        signals[s] = v;
         i += 1;
     }
-    let mut x = 0;
-    while x < size.channels {
-        moves[x] = moved_on(chs[x]);
+}
+
+// Writes what moves on each of the first m channels.
+pub fn write_moves(signals: &[u8], m: usize, moves: &mut [u8])
+    requires { ⌜ (m ≤ 255) × (2 * m ≤ length (now signals)) × (m ≤ length (now moves)) ⌝ }
+    ensures { λ _. ⌜ now (moves .exit) ≡ upTo m (movedIn (now (signals .entry))) ++ drop m (now (moves .entry)) ⌝ }
+{
+    let mut x: usize = 0;
+    while x < m {
+        moves[x] = moved_on(channel_at(signals, x));
         x += 1;
     }
 }

@@ -1,6 +1,5 @@
 -- No signal is above the count of colours: an offer is none or 1 + a colour below C, a take is 0 or 1. Assumes nothing.
 use mathlib.Core.Path.{_≡_, refl}
-use mathlib.Core.Bool.{Bool, true, false}
 use mathlib.Core.List.{List}
 use Prim.Native.Nat.{ℕ, zero, suc, _+_, _*_, _/_, _≤_, _<_}
 use native.Mathlib.Omega.{arith}
@@ -12,41 +11,15 @@ use Rattle.component.specs.Netlist.{Netlist, rowOf}
 use Rattle.component.specs.Row.{kind, firstMap, secondMap, capacity}
 use Rattle.wiring.specs.Ends.{endPort}
 use Rattle.wiring.specs.Signals.{Near, offerA, offerB, takeB, takeC, endOf}
-use Rattle.rules.specs.Rules.{bit, when, unless, offered, orElse, either, mapped, Component, held, rule}
+use Rattle.rules.specs.Rules.{when, Component, held, rule}
+use Rattle.rules.proofs.Bounds.{when-le, unless-le, either-le, orElse-le, offered-le, bit-le, mapped-le}
 use Rattle.signals.proofs.Signals.{giver}
+use Rattle.plan.specs.Plan.{Planned}
 use Rattle.signals.specs.Channels.{Ready}
 use Rattle.signals.specs.Signals.{componentAt, near, ruleOf, value, moved}
 use Rattle.state.specs.Step.{Steps}
 use Rattle.state.proofs.Choices.{source-choice}
 use Rattle.state.proofs.Good.{emitted-le, source-held, queue-colour}
-
-when-le : (g v b : ℕ) → v ≤ b → when g v ≤ b
-when-le zero v b h = omega arith
-when-le (suc g) v b h = h
-
-pub unless-le : (g v b : ℕ) → v ≤ b → unless g v ≤ b
-unless-le zero v b h = h
-unless-le (suc g) v b h = omega arith
-
-either-le : (g v w b : ℕ) → v ≤ b → w ≤ b → either g v w ≤ b
-either-le zero v w b h k = h
-either-le (suc g) v w b h k = k
-
-pub orElse-le : (v w b : ℕ) → v ≤ b → w ≤ b → orElse v w ≤ b
-orElse-le zero w b h k = k
-orElse-le (suc v) w b h k = h
-
-offered-le : (v b : ℕ) → 1 ≤ b → offered v ≤ b
-offered-le zero b h = omega arith
-offered-le (suc v) b h = h
-
-bit-le : (t : Bool) (b : ℕ) → 1 ≤ b → bit t ≤ b
-bit-le true b h = h
-bit-le false b h = omega arith
-
-mapped-le : (map : ℕ → ℕ) (o b : ℕ) → ((d : ℕ) → d < b → map d < b) → o ≤ b → mapped map o ≤ b
-mapped-le map zero b h l = omega arith
-mapped-le map (suc d) b h l = h d l
 
 front-le : (n v b : ℕ) → (0 < n → v < b) → when n (suc v) ≤ b
 front-le zero v b h = omega arith
@@ -112,10 +85,10 @@ module _ (f : Netlist) (ends order state choices : List ℕ) (t : Steps f ends o
   unfolding moved
   moved-le x l = when-le (value f state choices (2 * x + 1)) (value f state choices (2 * x)) (f .colours) (value-le (2 * x) (omega arith))
 
-  -- what the signals are worked out from
-  pub steps-ready : Ready f ends order state choices
-  steps-ready = record {
-    accepted = t .accepted;
+  -- what the signals are worked out from, along any plan
+  pub steps-ready : {plan : List ℕ} → Planned f plan → Ready f plan state choices
+  steps-ready p = record {
+    planned = p;
     states = t .good .long;
     chosen = t .allowed .long;
     small = λ s h. omega (arith, value-le s h, t .accepted .fewColours);

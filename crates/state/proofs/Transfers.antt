@@ -1,47 +1,27 @@
 -- What a transfer is, seen from the component at either end of its channel. Assumes nothing.
-use mathlib.Core.Path.{_≡_, refl, ap, _∙_}
+use mathlib.Core.Path.{_≡_, ap}
 use mathlib.Core.Bool.{true}
-use mathlib.Core.List.{List, [], _∷_, _++_}
-use Prim.Native.Nat.{ℕ, zero, suc, _+_, _*_, _<_}
-use native.Mathlib.Omega.{arith}
-use native.Mathlib.Numerals.{add-one}
-use native.Mathlib.Decide.{decLt}
-use lib.ListN.{length, getD, length-append, List·getD-append}
-use lib.Seq.{getD-at}
+use mathlib.Core.List.{List, _++_}
+use Prim.Native.Nat.{ℕ, _+_, _*_, _<_}
+use lib.ListN.{length, getD}
+use Rattle.digits.proofs.UpTo.{length-upTo, filled-at}
 use Rattle.component.specs.Kind.{Port, portUse, isOutput, isInput}
 use Rattle.component.specs.Netlist.{Netlist, rowOf}
 use Rattle.component.specs.Row.{kind, port}
 use Rattle.rules.specs.Rules.{when}
 use Rattle.signals.proofs.Signals.{value-output, value-input}
 use Rattle.reader.specs.Accepted.{AcceptedFabric}
-use Rattle.signals.specs.Signals.{ruleAt, value, moved, tabulate, moves}
-
-pub tab-length : (g : ℕ → ℕ) (m : ℕ) → length (tabulate g m) ≡ m
-tab-length g zero = refl
-tab-length g (suc m) = length-append (tabulate g m) (g m ∷ []) ∙ add-one (length (tabulate g m)) ∙ ap suc (tab-length g m)
-
-tab-at : (g : ℕ → ℕ) (m i : ℕ) → i < m → getD (tabulate g m) i 0 ≡ g i
-tab-at g zero i h = absurd (omega arith)
-tab-at g (suc m) i h = pick (tab-at g m i) (decLt i m)
-  where
-    pick : (i < m → getD (tabulate g m) i 0 ≡ g i) → Dec (i < m) → getD (tabulate g m ++ (g m ∷ [])) i 0 ≡ g i
-    pick r (yes l) = List·getD-append (tabulate g m) (g m ∷ []) 0 i (omega (arith, tab-length g m)) ∙ r l
-    pick r (no l) =
-        let e : i ≡ m = omega arith in
-        rw e (getD-at (tabulate g m) (g m) [] 0 m (tab-length g m))
+use Rattle.signals.specs.Signals.{ruleAt, value, moved, moves}
 
 pub moves-length : (f : Netlist) (state choices : List ℕ) → length (moves f state choices) ≡ f .channels
 unfolding moves
-moves-length f state choices = tab-length (moved f state choices) (f .channels)
+moves-length f state choices = length-upTo (moved f state choices) (f .channels)
 
 module _ (f : Netlist) (ends order : List ℕ) (a : AcceptedFabric f ends order) (state choices : List ℕ) (k : ℕ) (h : k < f .components) where
   -- a byte of the moves, whatever stands behind them
   pub move-is : (rest : List ℕ) (p : Port) → getD (moves f state choices ++ rest) (port (rowOf f k) p) 0 ≡ moved f state choices (port (rowOf f k) p)
   unfolding moves
-  move-is rest p =
-      let l : port (rowOf f k) p < length (tabulate (moved f state choices) (f .channels)) = rw tab-length (a .rows k h .ports p) in
-      List·getD-append (tabulate (moved f state choices) (f .channels)) rest 0 (port (rowOf f k) p) l
-      ∙ tab-at (moved f state choices) (f .channels) (port (rowOf f k) p) (a .rows k h .ports p)
+  move-is rest p = filled-at (moved f state choices) rest 0 (f .channels) (port (rowOf f k) p) (a .rows k h .ports p)
 
   -- out of an output: what the component offers, if the channel is taken
   pub out-moves : (p : Port) → isOutput (portUse (kind (rowOf f k)) p) ≡ true →

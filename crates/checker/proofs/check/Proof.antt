@@ -1,12 +1,12 @@
 use Prim.Native.Nat.{_*_}
 use mathlib.Core.Path.{sym, ap, _∙_}
+use lib.ListN.{length}
+use native.Mathlib.Omega.{arith}
+use borrow.Author.Needs.{needs}
 use Rattle.refusals.specs.declared.Verdict.{Verdict}
 use Rattle.fabric.specs.Steps.{roomFor}
 use Rattle.checker.proofs.Files.{opened}
 use Rattle.checker.proofs.Checking.{read-fabric, check-refused, check-zero, check-kept, check-judged, check-constant, check-short, check-verdict, check-number, check-written}
-use lib.ListN.{length}
-use native.Mathlib.Omega.{arith}
-use borrow.Author.Needs.{needs}
 use Rattle.checker.proofs.check.Statement.{statement}
 use Rattle.checker.proofs.check.Tie as tie
 use Rattle.checker.proofs.check.Reads as reads
@@ -14,6 +14,7 @@ use Rattle.checker.proofs.check.Lts as lts
 use Rattle.checker.proofs.with_room.Reads as with-room-reads
 use Rattle.flows.proofs.judge.Reads as judge-reads
 use Rattle.flows.proofs.refused.Reads as refused-reads
+use Rattle.flows.proofs.verdict_on.Reads as verdict-on-reads
 use Rattle.reader.proofs.read.Reads as read-reads
 
 slice-aggregate-read : tie.Need-slice-aggregate-read
@@ -52,16 +53,11 @@ mul-if1 c = search needs
 array-share-prefix-rows : tie.Need-array-share-prefix-rows
 array-share-prefix-rows c = omega (arith, opened (c .before .before .before .before .before .before .read .ensures) (c .before .before .colours .given .1) .fits, c .before .before .before .before .before .before .read .kept .1 .0)
 
-slice-aggregate-judge : tie.Need-slice-aggregate-judge
-slice-aggregate-judge c = opened (c .before .before .before .before .before .before .before .read .ensures) (c .before .before .before .colours .given .1) .long
+slice-aggregate-verdict-on : tie.Need-slice-aggregate-verdict-on
+slice-aggregate-verdict-on c = opened (c .before .before .before .before .before .before .before .read .ensures) (c .before .before .before .colours .given .1) .long
 
-slice-aggregate-judge-2 : tie.Need-slice-aggregate-judge-2
-slice-aggregate-judge-2 c = search needs
-
-judge-requires : tie.Need-judge-requires
-judge-requires c κs =
-    let o = opened (c .before .before .before .before .before .before .before .before .read .ensures) (c .before .before .before .before .colours .given .1) in
-    (read-fabric (o .facts), omega (arith, o .fits))
+verdict-on-requires : tie.Need-verdict-on-requires
+verdict-on-requires c κs = read-fabric (opened (c .before .before .before .before .before .before .before .read .ensures) (c .before .before .before .colours .given .1) .facts)
 
 mul-with-room : tie.Need-mul-with-room
 mul-with-room c = search needs
@@ -71,23 +67,23 @@ with-room-requires c κs = search needs
 
 returns : tie.Need-returns
 returns c =
-    let o = opened (c .before .before .before .before .before .before .before .before .before .before .before .read .ensures) (c .before .before .before .before .before .before .before .colours .given .1) in
-    let a = c .before .before .before .before .before .before .before .before .before .before .before .before .before .before .before .before .before .args in
-    let j = c .before .before .judge .ensures in
+    let o = opened (c .before .before .before .before .before .before .before .before .before .read .ensures) (c .before .before .before .before .before .colours .given .1) in
+    let a = c .before .before .before .before .before .before .before .before .before .before .before .before .before .before .before .args in
+    let j = c .before .verdict-on .ensures in
     let room = c .with-room .ensures in (
-      room .0 ∙ ap (λ (v : Verdict). roomFor v (length (a .weights .now)) (8 * c .before .before .before .before .before .before .before .colours .given .0 .1 .1 .0)) (j .0) ∙ check-judged (a .file .now) (a .proposal .now) o (length (a .weights .now)),
-      room .1 ∙ check-constant (a .file .now) (a .proposal .now) o (length (a .weights .now)) _ _ (j .0) (j .1 .0),
+      room .0 ∙ ap (λ (v : Verdict). roomFor v (length (a .weights .now)) (8 * c .before .before .before .before .before .colours .given .0 .1 .1 .0)) (j .0) ∙ check-judged (a .file .now) (a .proposal .now) o (length (a .weights .now)),
+      room .1 ∙ check-constant (a .file .now) (a .proposal .now) o (length (a .weights .now)) _ _ (j .0) (j .1),
       check-short (a .file .now) (a .proposal .now) o (a .weights .now) (omega arith),
     )
 
 array-share-prefix-rows-2 : tie.Need-array-share-prefix-rows-2
 array-share-prefix-rows-2 c = omega (arith, opened (c .before .before .before .before .before .before .read .ensures) (c .before .before .colours .given .1) .fits, c .before .before .before .before .before .before .read .kept .1 .0)
 
-slice-aggregate-judge-3 : tie.Need-slice-aggregate-judge-3
-slice-aggregate-judge-3 c = opened (c .before .before .before .before .before .before .before .read .ensures) (c .before .before .before .colours .given .1) .long
+slice-aggregate-judge : tie.Need-slice-aggregate-judge
+slice-aggregate-judge c = opened (c .before .before .before .before .before .before .before .read .ensures) (c .before .before .before .colours .given .1) .long
 
-judge-requires-2 : tie.Need-judge-requires-2
-judge-requires-2 c κs = (read-fabric (opened (c .before .before .before .before .before .before .before .before .read .ensures) (c .before .before .before .before .colours .given .1) .facts), omega arith)
+judge-requires : tie.Need-judge-requires
+judge-requires c κs = (read-fabric (opened (c .before .before .before .before .before .before .before .before .read .ensures) (c .before .before .before .before .colours .given .1) .facts), omega arith)
 
 returns-2 : tie.Need-returns-2
 returns-2 c =
@@ -105,7 +101,7 @@ returns-3 : tie.Need-returns-3
 returns-3 c =
     let o = opened (c .before .before .before .before .before .before .before .before .before .before .read .ensures) (c .before .before .before .before .before .before .colours .given .1) in
     let a = c .before .before .before .before .before .before .before .before .before .before .before .before .before .before .before .before .args in
-    let j = c .before .judge2 .ensures in (
+    let j = c .before .judge .ensures in (
       j .0 ∙ check-verdict (a .file .now) (a .proposal .now) o (a .weights .now) (omega arith),
       j .1 .0 ∙ check-number (a .file .now) (a .proposal .now) o (a .weights .now) (omega arith),
       j .1 .1 ∙ check-written (a .file .now) (a .proposal .now) o (a .weights .now) (omega arith),
@@ -127,15 +123,14 @@ check-spec =
     cast-if1-2
     mul-if1
     array-share-prefix-rows
-    slice-aggregate-judge
-    slice-aggregate-judge-2
-    judge-requires
+    slice-aggregate-verdict-on
+    verdict-on-requires
     mul-with-room
     with-room-requires
     returns
     array-share-prefix-rows-2
-    slice-aggregate-judge-3
-    judge-requires-2
+    slice-aggregate-judge
+    judge-requires
     returns-2
     same-length
     returns-3)

@@ -1,18 +1,18 @@
 use Prim.Native.Nat.{_*_}
 use mathlib.Core.Path.{sym, ap, _∙_}
+use native.Mathlib.Omega.{arith}
+use borrow.Author.Needs.{needs}
 use Rattle.refusals.specs.declared.Verdict.{Verdict}
 use Rattle.fabric.specs.Steps.{roomFor}
 use Rattle.checker.proofs.Files.{opened}
 use Rattle.checker.proofs.Checking.{read-fabric, check-refused, check-zero, check-judged, check-constant}
-use native.Mathlib.Omega.{arith}
-use borrow.Author.Needs.{needs}
 use Rattle.checker.proofs.check_answer.Statement.{statement}
 use Rattle.checker.proofs.check_answer.Tie as tie
 use Rattle.checker.proofs.check_answer.Reads as reads
 use Rattle.checker.proofs.check_answer.Lts as lts
 use Rattle.checker.proofs.with_room.Reads as with-room-reads
-use Rattle.flows.proofs.judge.Reads as judge-reads
 use Rattle.flows.proofs.refused.Reads as refused-reads
+use Rattle.flows.proofs.verdict_on.Reads as verdict-on-reads
 use Rattle.reader.proofs.read.Reads as read-reads
 
 slice-aggregate-read : tie.Need-slice-aggregate-read
@@ -42,22 +42,17 @@ mul-end c = search needs
 cast-with-room : tie.Need-cast-with-room
 cast-with-room c = search needs
 
-cast-t24 : tie.Need-cast-t24
-cast-t24 c = search needs
+cast-t23 : tie.Need-cast-t23
+cast-t23 c = search needs
 
 array-share-prefix-rows : tie.Need-array-share-prefix-rows
 array-share-prefix-rows c = omega (arith, opened (c .before .before .before .before .before .read .ensures) (c .before .colours .given .1) .fits, c .before .before .before .before .before .read .kept .1 .0)
 
-slice-aggregate-judge : tie.Need-slice-aggregate-judge
-slice-aggregate-judge c = opened (c .before .before .before .before .before .before .read .ensures) (c .before .before .colours .given .1) .long
+slice-aggregate-verdict-on : tie.Need-slice-aggregate-verdict-on
+slice-aggregate-verdict-on c = opened (c .before .before .before .before .before .before .read .ensures) (c .before .before .colours .given .1) .long
 
-slice-aggregate-judge-2 : tie.Need-slice-aggregate-judge-2
-slice-aggregate-judge-2 c = search needs
-
-judge-requires : tie.Need-judge-requires
-judge-requires c κs =
-    let o = opened (c .before .before .before .before .before .before .before .read .ensures) (c .before .before .before .colours .given .1) in
-    (read-fabric (o .facts), omega (arith, o .fits))
+verdict-on-requires : tie.Need-verdict-on-requires
+verdict-on-requires c κs = read-fabric (opened (c .before .before .before .before .before .before .read .ensures) (c .before .before .colours .given .1) .facts)
 
 mul-with-room : tie.Need-mul-with-room
 mul-with-room c = search needs
@@ -73,12 +68,12 @@ returns c =
 
 returns-2 : tie.Need-returns-2
 returns-2 c =
-    let o = opened (c .before .before .before .before .before .before .before .before .before .before .read .ensures) (c .before .before .before .before .before .before .colours .given .1) in
-    let a = c .before .before .before .before .before .before .before .before .before .before .before .before .before .before .before .before .args in
-    let j = c .before .before .judge .ensures in
+    let o = opened (c .before .before .before .before .before .before .before .before .read .ensures) (c .before .before .before .before .colours .given .1) in
+    let a = c .before .before .before .before .before .before .before .before .before .before .before .before .before .before .args in
+    let j = c .before .verdict-on .ensures in
     let room = c .with-room .ensures in (
-      room .0 ∙ ap (λ (v : Verdict). roomFor v (a .space) (8 * c .before .before .before .before .before .before .colours .given .0 .1 .1 .0)) (j .0) ∙ check-judged (a .file .now) (a .proposal .now) o (a .space),
-      room .1 ∙ check-constant (a .file .now) (a .proposal .now) o (a .space) _ _ (j .0) (j .1 .0),
+      room .0 ∙ ap (λ (v : Verdict). roomFor v (a .space) (8 * c .before .before .before .before .colours .given .0 .1 .1 .0)) (j .0) ∙ check-judged (a .file .now) (a .proposal .now) o (a .space),
+      room .1 ∙ check-constant (a .file .now) (a .proposal .now) o (a .space) _ _ (j .0) (j .1),
     )
 
 pub check-answer-spec : {M : Type 1} → statement M
@@ -94,11 +89,10 @@ check-answer-spec =
     cast-n
     mul-end
     cast-with-room
-    cast-t24
+    cast-t23
     array-share-prefix-rows
-    slice-aggregate-judge
-    slice-aggregate-judge-2
-    judge-requires
+    slice-aggregate-verdict-on
+    verdict-on-requires
     mul-with-room
     with-room-requires
     returns

@@ -25,23 +25,23 @@ returns-2 c =
     let a = c .before .before .before .before .before .before .before .before .args in
     ready-cell (netlist (a .size .colours) (a .size .channels) (a .size .components) (a .table .now)) (a .state .now) (a .choices .now) (a .uneven) (omega arith) _ (c .before .before .first-bad-cell .ensures) (omega arith)
 
-returns-3 : tie.Need-returns-3
-returns-3 c =
-    let a = c .before .before .before .before .before .before .before .before .before .args in
-    ready-uneven (netlist (a .size .colours) (a .size .channels) (a .size .components) (a .table .now)) (a .state .now) (a .choices .now) (a .uneven) (omega arith) _ (c .before .before .before .first-bad-cell .ensures) (omega arith) (c .if3 .taken)
-
 first-bad-choice-requires : tie.Need-first-bad-choice-requires
 first-bad-choice-requires c κs = search needs
+
+returns-3 : tie.Need-returns-3
+returns-3 c =
+    let a = c .before .before .before .before .before .before .before .before .before .before .args in
+    ready-uneven (netlist (a .size .colours) (a .size .channels) (a .size .components) (a .table .now)) (a .state .now) (a .choices .now) (a .uneven) (omega arith) _ (c .before .before .before .before .first-bad-cell .ensures) (omega arith) (c .if3 .taken)
 
 returns-4 : tie.Need-returns-4
 returns-4 c =
     let a = c .before .before .before .before .before .before .before .before .before .before .before .args in
-    ready-choice (netlist (a .size .colours) (a .size .channels) (a .size .components) (a .table .now)) (a .state .now) (a .choices .now) (a .uneven) (omega arith) _ (c .before .before .before .before .before .first-bad-cell .ensures) (omega arith) (c .before .before .if3 .left) _ (c .before .first-bad-choice .ensures) (omega arith)
+    ready-choice (netlist (a .size .colours) (a .size .channels) (a .size .components) (a .table .now)) (a .state .now) (a .choices .now) (a .uneven) (omega arith) _ (c .before .before .before .before .before .first-bad-cell .ensures) (omega arith) (c .before .if3 .left) _ (c .before .before .first-bad-choice .ensures) (omega arith)
 
 returns-5 : tie.Need-returns-5
 returns-5 c =
     let a = c .before .before .before .before .before .before .before .before .before .before .before .args in
-    ready-all (netlist (a .size .colours) (a .size .channels) (a .size .components) (a .table .now)) (a .state .now) (a .choices .now) (a .uneven) (omega arith) _ (c .before .before .before .before .before .first-bad-cell .ensures) (omega arith) (c .before .before .if3 .left) _ (c .before .first-bad-choice .ensures) (omega arith)
+    ready-all (netlist (a .size .colours) (a .size .channels) (a .size .components) (a .table .now)) (a .state .now) (a .choices .now) (a .uneven) (omega arith) _ (c .before .before .before .before .before .first-bad-cell .ensures) (omega arith) (c .before .if3 .left) _ (c .before .before .first-bad-choice .ensures) (omega arith)
 
 pub ready-spec : {M : Type 1} → statement M
 ready-spec =
@@ -51,7 +51,7 @@ ready-spec =
     returns
     first-bad-cell-requires
     returns-2
-    returns-3
     first-bad-choice-requires
+    returns-3
     returns-4
     returns-5)

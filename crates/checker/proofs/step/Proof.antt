@@ -54,8 +54,8 @@ ready-requires c κs =
 room-for-requires : tie.Need-room-for-requires
 room-for-requires c κs = search needs
 
-enum-known-r : tie.Need-enum-known-r
-enum-known-r c = search needs
+enum-known-verdict : tie.Need-enum-known-verdict
+enum-known-verdict c = search needs
 
 enum-told : tie.Need-enum-told
 enum-told c = search needs
@@ -91,7 +91,7 @@ returns-2 c =
     let a = c .before .before .before .before .before .before .before .before .before .before .before .before .before .before .before .before .before .before .before .before .args in
     let o = opened (c .before .before .before .before .before .before .before .before .before .before .before .before .read .ensures) (c .before .before .before .before .before .before .before .before .colours .given .1) in
     let verdict = c .before .before .before .room-for .ensures ∙ step-judged (a .file .now) (a .state .now) (a .choices .now) o (length (a .moves .now)) _ (c .before .before .before .before .ready .ensures) in
-    let e = sym (c .before .r .given .1) ∙ verdict in
+    let e = sym (c .before .verdict .given .1) ∙ verdict in
     (e, step-kept (a .file .now) (a .state .now) (a .choices .now) (length (a .moves .now)) e, moves-kept (a .file .now) (a .state .now) (a .choices .now) (a .moves .now) e)
 
 same-length-2 : tie.Need-same-length-2
@@ -107,7 +107,7 @@ returns-3 c =
     let verdict = c .before .before .before .before .before .before .before .before .before .before .before .before .room-for .ensures ∙ step-judged (a .file .now) (a .state .now) (a .choices .now) o (length (a .moves .now)) _ (c .before .before .before .before .before .before .before .before .before .before .before .before .before .ready .ensures) in
     let e = sym (c .before .before .before .before .before .before .before .before .before .before .enum-told .given .1) ∙ verdict in
     let t = c .before .before .before .before .take-step .ensures in
-    (e, t .0 ∙ step-written (a .file .now) (a .state .now) (a .choices .now) _ (o .same) (length (a .moves .now)) e, t .1 ∙ moves-written (a .file .now) (a .state .now) (a .choices .now) _ (o .same) (a .moves .now) e)
+    (verdict, t .0 ∙ step-written (a .file .now) (a .state .now) (a .choices .now) _ (o .same) (length (a .moves .now)) e, t .1 ∙ moves-written (a .file .now) (a .state .now) (a .choices .now) _ (o .same) (a .moves .now) e)
 
 pub step-spec : {M : Type 1} → statement M
 step-spec =
@@ -126,7 +126,7 @@ step-spec =
     slice-aggregate-ready
     ready-requires
     room-for-requires
-    enum-known-r
+    enum-known-verdict
     enum-told
     array-share-prefix-rows-2
     slice-aggregate-take-step

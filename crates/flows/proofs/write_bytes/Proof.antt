@@ -5,8 +5,9 @@ use lib.ListN.{length, getD, set, drop}
 use lib.IntN.{ℤ, pos}
 use mir.Syntax.{w64}
 use mir.ValLaws.{toZ-ofZ}
-use Rattle.flows.specs.Verdict.{upTo, byteOf, weightByte}
-use Rattle.flows.proofs.Lists.{filled-none, filled-more, length-filled}
+use Rattle.digits.specs.UpTo.{upTo}
+use Rattle.flows.specs.Verdict.{byteOf, weightByte}
+use Rattle.digits.proofs.UpTo.{filled-none, filled-more, length-filled}
 use native.Mathlib.Omega.{arith}
 use Rattle.flows.proofs.write_bytes.Statement.{statement}
 use Rattle.flows.proofs.write_bytes.Tie as tie

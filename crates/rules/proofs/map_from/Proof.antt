@@ -1,49 +1,37 @@
-use Prim.Native.Nat.{suc, _+_}
-use mathlib.Core.Path.{ap}
-use Rattle.rules.proofs.Values.{past-end}
+use mathlib.Core.Path.{ap, _∙_}
+use Prim.Native.Nat.{ℕ, suc}
 use native.Mathlib.Omega.{arith}
+use lib.ListN.{getD}
 use borrow.Author.Needs.{needs}
 use Rattle.rules.proofs.map_from.Statement.{statement}
 use Rattle.rules.proofs.map_from.Tie as tie
 use Rattle.rules.proofs.map_from.Reads as reads
 use Rattle.rules.proofs.map_from.Lts as lts
+use Rattle.rules.proofs.colour_of.Reads as colour-of-reads
+use Rattle.rules.proofs.entry_at.Reads as entry-at-reads
 
-enum-known-o : tie.Need-enum-known-o
-enum-known-o c = search needs
-
-cast-j : tie.Need-cast-j
-cast-j c = search needs
+colour-of-requires : tie.Need-colour-of-requires
+colour-of-requires c κs = search needs
 
 add-j : tie.Need-add-j
 add-j c = search needs
 
-shared-slice-read-t10 : tie.Need-shared-slice-read-t10
-shared-slice-read-t10 c = search needs
-
-returns : tie.Need-returns
-returns c = rw (c .before .before .before .o .given .1)
+entry-at-requires : tie.Need-entry-at-requires
+entry-at-requires c κs = search needs
 
 enum-told : tie.Need-enum-told
 enum-told c = search needs
 
-returns-2 : tie.Need-returns-2
-returns-2 c =
-    let a = c .before .before .before .before .args in
-    let o = c .before .before .o .given in
-    rw (o .1) (ap suc (past-end (a .row .now) (a .at + o .0 .0) (omega arith)))
+enum-told-2 : tie.Need-enum-told-2
+enum-told-2 c = search needs
 
-returns-3 : tie.Need-returns-3
-returns-3 c = search needs
+returns : tie.Need-returns
+returns c = rw (c .enum-told .given .1) (ap suc (c .before .before .entry-at .ensures ∙ ap (λ (j : ℕ). getD (c .before .before .before .before .before .args .row .now) j 0) (let e = rw (c .enum-told .given .1) at (c .before .before .before .colour-of .ensures .0) in omega (arith, e))))
+
+returns-2 : tie.Need-returns-2
+returns-2 c = search needs
 
 pub map-from-spec : {M : Type 1} → statement M
 map-from-spec =
     tie.close
-    (tie.spec
-    enum-known-o
-    cast-j
-    add-j
-    shared-slice-read-t10
-    returns
-    enum-told
-    returns-2
-    returns-3)
+    (tie.spec colour-of-requires add-j entry-at-requires enum-told enum-told-2 returns returns-2)

@@ -5,7 +5,7 @@ use native.Mathlib.Omega.{arith}
 use lib.ListN.{getD, drop}
 use borrow.Author.Needs.{needs}
 use Rattle.rules.specs.Rules.{numberOf, unless, orElse}
-use Rattle.state.proofs.Bounds.{unless-le, orElse-le}
+use Rattle.rules.proofs.Bounds.{unless-le, orElse-le}
 use Rattle.state.proofs.Turn.{set-first, unless-flag}
 use Rattle.state.proofs.source_next.Statement.{statement}
 use Rattle.state.proofs.source_next.Tie as tie

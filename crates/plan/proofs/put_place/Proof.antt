@@ -1,0 +1,166 @@
+use Prim.Native.Nat.{_/_}
+use lib.ListN.{length-set}
+use lib.Dec.{lit<}
+use native.Mathlib.Omega.{arith}
+use Rattle.record.proofs.Table.{row-at}
+use Rattle.plan.proofs.Plan.{row-kind}
+use borrow.Author.Needs.{needs}
+use Rattle.plan.proofs.put_place.Statement.{statement}
+use Rattle.plan.proofs.put_place.Tie as tie
+use Rattle.plan.proofs.put_place.Reads as reads
+use Rattle.plan.proofs.put_place.Lts as lts
+use Rattle.plan.proofs.narrow.Reads as narrow-reads
+use Rattle.plan.proofs.widened.Reads as widened-reads
+
+mul-f : tie.Need-mul-f
+mul-f c = search needs
+
+shared-slice-read-widened : tie.Need-shared-slice-read-widened
+shared-slice-read-widened c = search needs
+
+widened-requires : tie.Need-widened-requires
+widened-requires c κs = search needs
+
+mul-plan : tie.Need-mul-plan
+mul-plan c = search needs
+
+narrow-requires : tie.Need-narrow-requires
+narrow-requires c κs = search needs
+
+add-plan : tie.Need-add-plan
+add-plan c = search needs
+
+mul-plan-2 : tie.Need-mul-plan-2
+mul-plan-2 c = search needs
+
+slice-write-plan : tie.Need-slice-write-plan
+slice-write-plan c = search needs
+
+narrow-requires-2 : tie.Need-narrow-requires-2
+narrow-requires-2 c κs = search needs
+
+add-plan-2 : tie.Need-add-plan-2
+add-plan-2 c = search needs
+
+mul-plan-3 : tie.Need-mul-plan-3
+mul-plan-3 c = search needs
+
+slice-write-plan-2 : tie.Need-slice-write-plan-2
+slice-write-plan-2 c = simp length-set (omega (arith, c .before .before .before .before .before .before .pre .0 .0))
+
+narrow-requires-3 : tie.Need-narrow-requires-3
+narrow-requires-3 c κs = search needs
+
+add-plan-3 : tie.Need-add-plan-3
+add-plan-3 c = search needs
+
+mul-plan-4 : tie.Need-mul-plan-4
+mul-plan-4 c = search needs
+
+slice-write-plan-3 : tie.Need-slice-write-plan-3
+slice-write-plan-3 c = simp length-set (omega (arith, c .before .before .before .before .before .before .before .pre .0 .0))
+
+add-widened : tie.Need-add-widened
+add-widened c = search needs
+
+shared-slice-read-widened-2 : tie.Need-shared-slice-read-widened-2
+shared-slice-read-widened-2 c = search needs
+
+widened-requires-2 : tie.Need-widened-requires-2
+widened-requires-2 c κs = search needs
+
+add-plan-4 : tie.Need-add-plan-4
+add-plan-4 c = search needs
+
+mul-plan-5 : tie.Need-mul-plan-5
+mul-plan-5 c = search needs
+
+slice-write-plan-4 : tie.Need-slice-write-plan-4
+slice-write-plan-4 c = simp length-set (omega (arith, c .before .before .before .before .before .before .before .before .before .pre .0 .0))
+
+add-widened-2 : tie.Need-add-widened-2
+add-widened-2 c = search needs
+
+shared-slice-read-widened-3 : tie.Need-shared-slice-read-widened-3
+shared-slice-read-widened-3 c = search needs
+
+widened-requires-3 : tie.Need-widened-requires-3
+widened-requires-3 c κs = search needs
+
+add-plan-5 : tie.Need-add-plan-5
+add-plan-5 c = search needs
+
+mul-plan-6 : tie.Need-mul-plan-6
+mul-plan-6 c = search needs
+
+slice-write-plan-5 : tie.Need-slice-write-plan-5
+slice-write-plan-5 c = simp length-set (omega (arith, c .before .before .before .before .before .before .before .before .before .before .before .pre .0 .0))
+
+add-widened-3 : tie.Need-add-widened-3
+add-widened-3 c = search needs
+
+shared-slice-read-widened-4 : tie.Need-shared-slice-read-widened-4
+shared-slice-read-widened-4 c = search needs
+
+widened-requires-4 : tie.Need-widened-requires-4
+widened-requires-4 c κs = search needs
+
+add-plan-6 : tie.Need-add-plan-6
+add-plan-6 c = search needs
+
+mul-plan-7 : tie.Need-mul-plan-7
+mul-plan-7 c = search needs
+
+slice-write-plan-6 : tie.Need-slice-write-plan-6
+slice-write-plan-6 c = simp length-set (omega (arith, c .before .before .before .before .before .before .before .before .before .before .before .before .before .pre .0 .0))
+
+same-length : tie.Need-same-length
+same-length c = simp length-set
+
+returns : tie.Need-returns
+returns c =
+    let p = c .before .before .before .before .before .before .before .before .before .before .before .before .before .args in
+    let t = p .table .now in
+    let k = p .e / 3 in
+    rw (c .before .before .before .before .before .before .before .before .before .widened .ensures, c .before .before .before .before .before .before .before .before .narrow .ensures, c .before .before .before .before .before .before .before .narrow2 .ensures, c .before .before .before .before .before .before .narrow3 .ensures, c .before .before .before .before .widened2 .ensures, c .before .before .widened3 .ensures, c .widened4 .ensures, row-kind t k, row-at t k 1 (lit< tt), row-at t k 2 (lit< tt), row-at t k 3 (lit< tt))
+
+pub put-place-spec : {M : Type 1} → statement M
+put-place-spec =
+    tie.close
+    (tie.spec
+    mul-f
+    shared-slice-read-widened
+    widened-requires
+    mul-plan
+    narrow-requires
+    add-plan
+    mul-plan-2
+    slice-write-plan
+    narrow-requires-2
+    add-plan-2
+    mul-plan-3
+    slice-write-plan-2
+    narrow-requires-3
+    add-plan-3
+    mul-plan-4
+    slice-write-plan-3
+    add-widened
+    shared-slice-read-widened-2
+    widened-requires-2
+    add-plan-4
+    mul-plan-5
+    slice-write-plan-4
+    add-widened-2
+    shared-slice-read-widened-3
+    widened-requires-3
+    add-plan-5
+    mul-plan-6
+    slice-write-plan-5
+    add-widened-3
+    shared-slice-read-widened-4
+    widened-requires-4
+    add-plan-6
+    mul-plan-7
+    slice-write-plan-6
+    same-length
+    returns)
