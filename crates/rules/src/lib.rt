@@ -90,6 +90,21 @@ pub fn offer_of_byte(n: u8) -> Offer
     Offer::Colour(n - 1)
 }
 
+// The byte that says an offer; 0 for a colour of 255, which no fabric has.
+pub fn byte_of_offer(o: Offer) -> u8
+    ensures { λ r. ⌜ (numberOf o ≤ 255 → r ≡ numberOf o) ⌝ }
+{
+    match o {
+        Offer::Colour(d) => {
+            if d < 255 {
+                return d + 1;
+            }
+            0
+        }
+        Offer::Nothing => 0,
+    }
+}
+
 fn is_offered(o: Offer) -> bool
     ensures { λ r. ⌜ bit r ≡ offered (numberOf o) ⌝ }
 {

@@ -14,21 +14,6 @@ use component::Size;
 use rules::Channel;
 use rules::Offer;
 
-// The number of an offer; 0 for a colour of 255, which no fabric has.
-fn number_of(o: Offer) -> u8
-    ensures { λ r. ⌜ (numberOf o ≤ 255 → r ≡ numberOf o) ⌝ }
-{
-    match o {
-        Offer::Colour(d) => {
-            if d < 255 {
-                return d + 1;
-            }
-            0
-        }
-        Offer::Nothing => 0,
-    }
-}
-
 fn bit_of(t: bool) -> u8
     ensures { λ r. ⌜ r ≡ bit t ⌝ }
 {
@@ -70,7 +55,7 @@ fn moved_on(c: Channel) -> u8
 {
     let o = c.offer;
     if c.take {
-        return number_of(o);
+        return rules::byte_of_offer(o);
     }
     0
 }
@@ -91,25 +76,25 @@ fn signal(
 {
     match rule {
         // Source.
-        0 => number_of(rules::source_offer(cell, pick)),
+        0 => rules::byte_of_offer(rules::source_offer(cell, pick)),
         // Sink.
         3 => bit_of(rules::sink_take(cell, pick)),
         // Queue.
         6 => bit_of(rules::queue_take(row, cell)),
-        7 => number_of(rules::queue_offer(cell)),
+        7 => rules::byte_of_offer(rules::queue_offer(cell)),
         // Function.
         9 => bit_of(take_at(signals, pb)),
-        10 => number_of(rules::map_from(row, 4, offer_at(signals, pa))),
+        10 => rules::byte_of_offer(rules::map_from(row, 4, offer_at(signals, pa))),
         // Fork.
         12 => bit_of(rules::both(take_at(signals, pb), take_at(signals, pc))),
-        13 => number_of(rules::fork_offer(
+        13 => rules::byte_of_offer(rules::fork_offer(
             row,
             1,
             offer_at(signals, pa),
             take_at(signals, pb),
             take_at(signals, pc),
         )),
-        14 => number_of(rules::fork_offer(
+        14 => rules::byte_of_offer(rules::fork_offer(
             row,
             2,
             offer_at(signals, pa),
@@ -129,7 +114,11 @@ fn signal(
             offer_at(signals, pb),
             take_at(signals, pc),
         )),
-        17 => number_of(rules::join_offer(row, offer_at(signals, pa), offer_at(signals, pb))),
+        17 => rules::byte_of_offer(rules::join_offer(
+            row,
+            offer_at(signals, pa),
+            offer_at(signals, pb),
+        )),
         // Switch.
         18 => bit_of(rules::switch_take(
             row,
@@ -137,8 +126,8 @@ fn signal(
             take_at(signals, pb),
             take_at(signals, pc),
         )),
-        19 => number_of(rules::switch_offer(row, 1, offer_at(signals, pa))),
-        20 => number_of(rules::switch_offer(row, 2, offer_at(signals, pa))),
+        19 => rules::byte_of_offer(rules::switch_offer(row, 1, offer_at(signals, pa))),
+        20 => rules::byte_of_offer(rules::switch_offer(row, 2, offer_at(signals, pa))),
         // Merge.
         21 => bit_of(rules::merge_take(
             pick,
@@ -154,7 +143,11 @@ fn signal(
             offer_at(signals, pb),
             take_at(signals, pc),
         )),
-        _ => number_of(rules::merge_offer(pick, offer_at(signals, pa), offer_at(signals, pb))),
+        _ => rules::byte_of_offer(rules::merge_offer(
+            pick,
+            offer_at(signals, pa),
+            offer_at(signals, pb),
+        )),
     }
 }
 

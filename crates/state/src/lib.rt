@@ -13,7 +13,7 @@ ghost use Rattle.state.specs.Updatable.{Queue, newest, Moves, Updatable}
 use component::Size;
 use rules::HeldSink;
 use rules::HeldSource;
-use rules::Offer;
+use rules::byte_of_offer;
 use rules::offer_of_byte;
 
 fn wide(x: u8) -> usize
@@ -99,16 +99,6 @@ fn queue_next(q: &mut [u8], ma: u8, mb: u8)
     let_in(&mut *q, ma);
 }
 
-fn byte_of(o: Offer) -> u8
-    requires { ⌜ numberOf o ≤ 255 ⌝ }
-    ensures { λ r. ⌜ r ≡ numberOf o ⌝ }
-{
-    match o {
-        Offer::Colour(d) => d + 1,
-        Offer::Nothing => 0,
-    }
-}
-
 // A source after a step: it holds its colour if it was offered and not taken.
 fn source_next(q: &mut [u8], pick: u8, ma: u8)
     requires { ⌜ length (now q) ≡ 64 ⌝ }
@@ -120,7 +110,7 @@ fn source_next(q: &mut [u8], pick: u8, ma: u8)
     let s = HeldSource { held: h };
     let t = s.next(p, ma != 0);
     let o = t.held;
-    q[0] = byte_of(o);
+    q[0] = byte_of_offer(o);
 }
 
 // A sink after a step: it holds if it took and nothing was offered.

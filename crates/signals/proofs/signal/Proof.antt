@@ -23,15 +23,15 @@ use Rattle.rules.proofs.source_offer.Reads as source-offer-reads
 use Rattle.rules.proofs.switch_offer.Reads as switch-offer-reads
 use Rattle.rules.proofs.switch_take.Reads as switch-take-reads
 use Rattle.signals.proofs.bit_of.Reads as bit-of-reads
-use Rattle.signals.proofs.number_of.Reads as number-of-reads
+use Rattle.rules.proofs.byte_of_offer.Reads as byte-of-offer-reads
 use Rattle.signals.proofs.offer_at.Reads as offer-at-reads
 use Rattle.signals.proofs.take_at.Reads as take-at-reads
 
 source-offer-requires : tie.Need-source-offer-requires
 source-offer-requires c κs = search needs
 
-number-of-requires : tie.Need-number-of-requires
-number-of-requires c κs = search needs
+byte-of-offer-requires : tie.Need-byte-of-offer-requires
+byte-of-offer-requires c κs = search needs
 
 sink-take-requires : tie.Need-sink-take-requires
 sink-take-requires c κs = search needs
@@ -48,8 +48,8 @@ bit-of-requires-2 c κs = search needs
 queue-offer-requires : tie.Need-queue-offer-requires
 queue-offer-requires c κs = search needs
 
-number-of-requires-2 : tie.Need-number-of-requires-2
-number-of-requires-2 c κs = search needs
+byte-of-offer-requires-2 : tie.Need-byte-of-offer-requires-2
+byte-of-offer-requires-2 c κs = search needs
 
 take-at-requires : tie.Need-take-at-requires
 take-at-requires c κs = search needs
@@ -63,8 +63,8 @@ offer-at-requires c κs = search needs
 map-from-requires : tie.Need-map-from-requires
 map-from-requires c κs = search needs
 
-number-of-requires-3 : tie.Need-number-of-requires-3
-number-of-requires-3 c κs = search needs
+byte-of-offer-requires-3 : tie.Need-byte-of-offer-requires-3
+byte-of-offer-requires-3 c κs = search needs
 
 take-at-requires-2 : tie.Need-take-at-requires-2
 take-at-requires-2 c κs = search needs
@@ -90,8 +90,8 @@ take-at-requires-5 c κs = search needs
 fork-offer-requires : tie.Need-fork-offer-requires
 fork-offer-requires c κs = search needs
 
-number-of-requires-4 : tie.Need-number-of-requires-4
-number-of-requires-4 c κs = search needs
+byte-of-offer-requires-4 : tie.Need-byte-of-offer-requires-4
+byte-of-offer-requires-4 c κs = search needs
 
 offer-at-requires-3 : tie.Need-offer-at-requires-3
 offer-at-requires-3 c κs = search needs
@@ -105,8 +105,8 @@ take-at-requires-7 c κs = search needs
 fork-offer-requires-2 : tie.Need-fork-offer-requires-2
 fork-offer-requires-2 c κs = search needs
 
-number-of-requires-5 : tie.Need-number-of-requires-5
-number-of-requires-5 c κs = search needs
+byte-of-offer-requires-5 : tie.Need-byte-of-offer-requires-5
+byte-of-offer-requires-5 c κs = search needs
 
 offer-at-requires-4 : tie.Need-offer-at-requires-4
 offer-at-requires-4 c κs = search needs
@@ -147,8 +147,8 @@ offer-at-requires-9 c κs = search needs
 join-offer-requires : tie.Need-join-offer-requires
 join-offer-requires c κs = search needs
 
-number-of-requires-6 : tie.Need-number-of-requires-6
-number-of-requires-6 c κs = search needs
+byte-of-offer-requires-6 : tie.Need-byte-of-offer-requires-6
+byte-of-offer-requires-6 c κs = search needs
 
 offer-at-requires-10 : tie.Need-offer-at-requires-10
 offer-at-requires-10 c κs = search needs
@@ -171,8 +171,8 @@ offer-at-requires-11 c κs = search needs
 switch-offer-requires : tie.Need-switch-offer-requires
 switch-offer-requires c κs = search needs
 
-number-of-requires-7 : tie.Need-number-of-requires-7
-number-of-requires-7 c κs = search needs
+byte-of-offer-requires-7 : tie.Need-byte-of-offer-requires-7
+byte-of-offer-requires-7 c κs = search needs
 
 offer-at-requires-12 : tie.Need-offer-at-requires-12
 offer-at-requires-12 c κs = search needs
@@ -180,8 +180,8 @@ offer-at-requires-12 c κs = search needs
 switch-offer-requires-2 : tie.Need-switch-offer-requires-2
 switch-offer-requires-2 c κs = search needs
 
-number-of-requires-8 : tie.Need-number-of-requires-8
-number-of-requires-8 c κs = search needs
+byte-of-offer-requires-8 : tie.Need-byte-of-offer-requires-8
+byte-of-offer-requires-8 c κs = search needs
 
 offer-at-requires-13 : tie.Need-offer-at-requires-13
 offer-at-requires-13 c κs = search needs
@@ -222,14 +222,14 @@ offer-at-requires-18 c κs = search needs
 merge-offer-requires : tie.Need-merge-offer-requires
 merge-offer-requires c κs = search needs
 
-number-of-requires-9 : tie.Need-number-of-requires-9
-number-of-requires-9 c κs = search needs
+byte-of-offer-requires-9 : tie.Need-byte-of-offer-requires-9
+byte-of-offer-requires-9 c κs = search needs
 
 returns : tie.Need-returns
 returns c =
     let u = c .before .before .before .before .before .before .pre in
     let p = c .before .before .before .before .before .before .args in
-    offers u 0 (c .before .before .match .keys1) (refl {a = getD (p .signals .now) (2 * p .pa) 0}) (refl {a = getD (p .signals .now) (2 * p .pb) 0}) (refl {a = getD (p .signals .now) (2 * p .pb + 1) 0}) (refl {a = getD (p .signals .now) (2 * p .pc + 1) 0}) (c .before .source-offer .result) _ (c .number-of .ensures) (source-a (p .row .now) (p .cell .now) (p .pick) (getD (p .signals .now) (2 * p .pa) 0) (getD (p .signals .now) (2 * p .pb) 0) (getD (p .signals .now) (2 * p .pb + 1) 0) (getD (p .signals .now) (2 * p .pc + 1) 0) (numberOf (c .before .source-offer .result)) (c .before .source-offer .ensures))
+    offers u 0 (c .before .before .match .keys1) (refl {a = getD (p .signals .now) (2 * p .pa) 0}) (refl {a = getD (p .signals .now) (2 * p .pb) 0}) (refl {a = getD (p .signals .now) (2 * p .pb + 1) 0}) (refl {a = getD (p .signals .now) (2 * p .pc + 1) 0}) (c .before .source-offer .result) _ (c .byte-of-offer .ensures) (source-a (p .row .now) (p .cell .now) (p .pick) (getD (p .signals .now) (2 * p .pa) 0) (getD (p .signals .now) (2 * p .pb) 0) (getD (p .signals .now) (2 * p .pb + 1) 0) (getD (p .signals .now) (2 * p .pc + 1) 0) (numberOf (c .before .source-offer .result)) (c .before .source-offer .ensures))
 
 returns-2 : tie.Need-returns-2
 returns-2 c =
@@ -247,7 +247,7 @@ returns-4 : tie.Need-returns-4
 returns-4 c =
     let u = c .before .before .before .before .before .before .pre in
     let p = c .before .before .before .before .before .before .args in
-    offers u 7 (c .before .before .match .keys4) (refl {a = getD (p .signals .now) (2 * p .pa) 0}) (refl {a = getD (p .signals .now) (2 * p .pb) 0}) (refl {a = getD (p .signals .now) (2 * p .pb + 1) 0}) (refl {a = getD (p .signals .now) (2 * p .pc + 1) 0}) (c .before .queue-offer .result) _ (c .number-of2 .ensures) (queue-b (p .row .now) (p .cell .now) (p .pick) (getD (p .signals .now) (2 * p .pa) 0) (getD (p .signals .now) (2 * p .pb) 0) (getD (p .signals .now) (2 * p .pb + 1) 0) (getD (p .signals .now) (2 * p .pc + 1) 0) (numberOf (c .before .queue-offer .result)) (c .before .queue-offer .ensures))
+    offers u 7 (c .before .before .match .keys4) (refl {a = getD (p .signals .now) (2 * p .pa) 0}) (refl {a = getD (p .signals .now) (2 * p .pb) 0}) (refl {a = getD (p .signals .now) (2 * p .pb + 1) 0}) (refl {a = getD (p .signals .now) (2 * p .pc + 1) 0}) (c .before .queue-offer .result) _ (c .byte-of-offer2 .ensures) (queue-b (p .row .now) (p .cell .now) (p .pick) (getD (p .signals .now) (2 * p .pa) 0) (getD (p .signals .now) (2 * p .pb) 0) (getD (p .signals .now) (2 * p .pb + 1) 0) (getD (p .signals .now) (2 * p .pc + 1) 0) (numberOf (c .before .queue-offer .result)) (c .before .queue-offer .ensures))
 
 returns-5 : tie.Need-returns-5
 returns-5 c =
@@ -259,7 +259,7 @@ returns-6 : tie.Need-returns-6
 returns-6 c =
     let u = c .before .before .before .before .before .before .before .pre in
     let p = c .before .before .before .before .before .before .before .args in
-    offers u 10 (c .before .before .before .match .keys6) (c .before .before .offer-at .ensures) (refl {a = getD (p .signals .now) (2 * p .pb) 0}) (refl {a = getD (p .signals .now) (2 * p .pb + 1) 0}) (refl {a = getD (p .signals .now) (2 * p .pc + 1) 0}) (c .before .map-from .result) _ (c .number-of3 .ensures) (function-b (p .row .now) (p .cell .now) (p .pick) (numberOf (c .before .before .offer-at .result)) (getD (p .signals .now) (2 * p .pb) 0) (getD (p .signals .now) (2 * p .pb + 1) 0) (getD (p .signals .now) (2 * p .pc + 1) 0) (numberOf (c .before .map-from .result)) (c .before .map-from .ensures))
+    offers u 10 (c .before .before .before .match .keys6) (c .before .before .offer-at .ensures) (refl {a = getD (p .signals .now) (2 * p .pb) 0}) (refl {a = getD (p .signals .now) (2 * p .pb + 1) 0}) (refl {a = getD (p .signals .now) (2 * p .pc + 1) 0}) (c .before .map-from .result) _ (c .byte-of-offer3 .ensures) (function-b (p .row .now) (p .cell .now) (p .pick) (numberOf (c .before .before .offer-at .result)) (getD (p .signals .now) (2 * p .pb) 0) (getD (p .signals .now) (2 * p .pb + 1) 0) (getD (p .signals .now) (2 * p .pc + 1) 0) (numberOf (c .before .map-from .result)) (c .before .map-from .ensures))
 
 returns-7 : tie.Need-returns-7
 returns-7 c =
@@ -271,13 +271,13 @@ returns-8 : tie.Need-returns-8
 returns-8 c =
     let u = c .before .before .before .before .before .before .before .before .before .pre in
     let p = c .before .before .before .before .before .before .before .before .before .args in
-    offers u 13 (c .before .before .before .before .before .match .keys8) (c .before .before .before .before .offer-at2 .ensures) (refl {a = getD (p .signals .now) (2 * p .pb) 0}) (taken (u .atB) (c .before .before .before .take-at4 .result) (c .before .before .before .take-at4 .ensures)) (taken (u .atC) (c .before .before .take-at5 .result) (c .before .before .take-at5 .ensures)) (c .before .fork-offer .result) _ (c .number-of4 .ensures) (fork-b (p .row .now) (p .cell .now) (p .pick) (numberOf (c .before .before .before .before .offer-at2 .result)) (getD (p .signals .now) (2 * p .pb) 0) (bit (c .before .before .before .take-at4 .result)) (bit (c .before .before .take-at5 .result)) (numberOf (c .before .fork-offer .result)) (c .before .fork-offer .ensures))
+    offers u 13 (c .before .before .before .before .before .match .keys8) (c .before .before .before .before .offer-at2 .ensures) (refl {a = getD (p .signals .now) (2 * p .pb) 0}) (taken (u .atB) (c .before .before .before .take-at4 .result) (c .before .before .before .take-at4 .ensures)) (taken (u .atC) (c .before .before .take-at5 .result) (c .before .before .take-at5 .ensures)) (c .before .fork-offer .result) _ (c .byte-of-offer4 .ensures) (fork-b (p .row .now) (p .cell .now) (p .pick) (numberOf (c .before .before .before .before .offer-at2 .result)) (getD (p .signals .now) (2 * p .pb) 0) (bit (c .before .before .before .take-at4 .result)) (bit (c .before .before .take-at5 .result)) (numberOf (c .before .fork-offer .result)) (c .before .fork-offer .ensures))
 
 returns-9 : tie.Need-returns-9
 returns-9 c =
     let u = c .before .before .before .before .before .before .before .before .before .pre in
     let p = c .before .before .before .before .before .before .before .before .before .args in
-    offers u 14 (c .before .before .before .before .before .match .keys9) (c .before .before .before .before .offer-at3 .ensures) (refl {a = getD (p .signals .now) (2 * p .pb) 0}) (taken (u .atB) (c .before .before .before .take-at6 .result) (c .before .before .before .take-at6 .ensures)) (taken (u .atC) (c .before .before .take-at7 .result) (c .before .before .take-at7 .ensures)) (c .before .fork-offer2 .result) _ (c .number-of5 .ensures) (fork-c (p .row .now) (p .cell .now) (p .pick) (numberOf (c .before .before .before .before .offer-at3 .result)) (getD (p .signals .now) (2 * p .pb) 0) (bit (c .before .before .before .take-at6 .result)) (bit (c .before .before .take-at7 .result)) (numberOf (c .before .fork-offer2 .result)) (c .before .fork-offer2 .ensures))
+    offers u 14 (c .before .before .before .before .before .match .keys9) (c .before .before .before .before .offer-at3 .ensures) (refl {a = getD (p .signals .now) (2 * p .pb) 0}) (taken (u .atB) (c .before .before .before .take-at6 .result) (c .before .before .before .take-at6 .ensures)) (taken (u .atC) (c .before .before .take-at7 .result) (c .before .before .take-at7 .ensures)) (c .before .fork-offer2 .result) _ (c .byte-of-offer5 .ensures) (fork-c (p .row .now) (p .cell .now) (p .pick) (numberOf (c .before .before .before .before .offer-at3 .result)) (getD (p .signals .now) (2 * p .pb) 0) (bit (c .before .before .before .take-at6 .result)) (bit (c .before .before .take-at7 .result)) (numberOf (c .before .fork-offer2 .result)) (c .before .fork-offer2 .ensures))
 
 returns-10 : tie.Need-returns-10
 returns-10 c =
@@ -295,7 +295,7 @@ returns-12 : tie.Need-returns-12
 returns-12 c =
     let u = c .before .before .before .before .before .before .before .before .pre in
     let p = c .before .before .before .before .before .before .before .before .args in
-    offers u 17 (c .before .before .before .before .match .keys12) (c .before .before .before .offer-at8 .ensures) (c .before .before .offer-at9 .ensures) (refl {a = getD (p .signals .now) (2 * p .pb + 1) 0}) (refl {a = getD (p .signals .now) (2 * p .pc + 1) 0}) (c .before .join-offer .result) _ (c .number-of6 .ensures) (join-c (p .row .now) (p .cell .now) (p .pick) (numberOf (c .before .before .before .offer-at8 .result)) (numberOf (c .before .before .offer-at9 .result)) (getD (p .signals .now) (2 * p .pb + 1) 0) (getD (p .signals .now) (2 * p .pc + 1) 0) (numberOf (c .before .join-offer .result)) (c .before .join-offer .ensures))
+    offers u 17 (c .before .before .before .before .match .keys12) (c .before .before .before .offer-at8 .ensures) (c .before .before .offer-at9 .ensures) (refl {a = getD (p .signals .now) (2 * p .pb + 1) 0}) (refl {a = getD (p .signals .now) (2 * p .pc + 1) 0}) (c .before .join-offer .result) _ (c .byte-of-offer6 .ensures) (join-c (p .row .now) (p .cell .now) (p .pick) (numberOf (c .before .before .before .offer-at8 .result)) (numberOf (c .before .before .offer-at9 .result)) (getD (p .signals .now) (2 * p .pb + 1) 0) (getD (p .signals .now) (2 * p .pc + 1) 0) (numberOf (c .before .join-offer .result)) (c .before .join-offer .ensures))
 
 returns-13 : tie.Need-returns-13
 returns-13 c =
@@ -307,13 +307,13 @@ returns-14 : tie.Need-returns-14
 returns-14 c =
     let u = c .before .before .before .before .before .before .before .pre in
     let p = c .before .before .before .before .before .before .before .args in
-    offers u 19 (c .before .before .before .match .keys14) (c .before .before .offer-at11 .ensures) (refl {a = getD (p .signals .now) (2 * p .pb) 0}) (refl {a = getD (p .signals .now) (2 * p .pb + 1) 0}) (refl {a = getD (p .signals .now) (2 * p .pc + 1) 0}) (c .before .switch-offer .result) _ (c .number-of7 .ensures) (switch-b (p .row .now) (p .cell .now) (p .pick) (numberOf (c .before .before .offer-at11 .result)) (getD (p .signals .now) (2 * p .pb) 0) (getD (p .signals .now) (2 * p .pb + 1) 0) (getD (p .signals .now) (2 * p .pc + 1) 0) (numberOf (c .before .switch-offer .result)) (c .before .switch-offer .ensures))
+    offers u 19 (c .before .before .before .match .keys14) (c .before .before .offer-at11 .ensures) (refl {a = getD (p .signals .now) (2 * p .pb) 0}) (refl {a = getD (p .signals .now) (2 * p .pb + 1) 0}) (refl {a = getD (p .signals .now) (2 * p .pc + 1) 0}) (c .before .switch-offer .result) _ (c .byte-of-offer7 .ensures) (switch-b (p .row .now) (p .cell .now) (p .pick) (numberOf (c .before .before .offer-at11 .result)) (getD (p .signals .now) (2 * p .pb) 0) (getD (p .signals .now) (2 * p .pb + 1) 0) (getD (p .signals .now) (2 * p .pc + 1) 0) (numberOf (c .before .switch-offer .result)) (c .before .switch-offer .ensures))
 
 returns-15 : tie.Need-returns-15
 returns-15 c =
     let u = c .before .before .before .before .before .before .before .pre in
     let p = c .before .before .before .before .before .before .before .args in
-    offers u 20 (c .before .before .before .match .keys15) (c .before .before .offer-at12 .ensures) (refl {a = getD (p .signals .now) (2 * p .pb) 0}) (refl {a = getD (p .signals .now) (2 * p .pb + 1) 0}) (refl {a = getD (p .signals .now) (2 * p .pc + 1) 0}) (c .before .switch-offer2 .result) _ (c .number-of8 .ensures) (switch-c (p .row .now) (p .cell .now) (p .pick) (numberOf (c .before .before .offer-at12 .result)) (getD (p .signals .now) (2 * p .pb) 0) (getD (p .signals .now) (2 * p .pb + 1) 0) (getD (p .signals .now) (2 * p .pc + 1) 0) (numberOf (c .before .switch-offer2 .result)) (c .before .switch-offer2 .ensures))
+    offers u 20 (c .before .before .before .match .keys15) (c .before .before .offer-at12 .ensures) (refl {a = getD (p .signals .now) (2 * p .pb) 0}) (refl {a = getD (p .signals .now) (2 * p .pb + 1) 0}) (refl {a = getD (p .signals .now) (2 * p .pc + 1) 0}) (c .before .switch-offer2 .result) _ (c .byte-of-offer8 .ensures) (switch-c (p .row .now) (p .cell .now) (p .pick) (numberOf (c .before .before .offer-at12 .result)) (getD (p .signals .now) (2 * p .pb) 0) (getD (p .signals .now) (2 * p .pb + 1) 0) (getD (p .signals .now) (2 * p .pc + 1) 0) (numberOf (c .before .switch-offer2 .result)) (c .before .switch-offer2 .ensures))
 
 returns-16 : tie.Need-returns-16
 returns-16 c =
@@ -331,25 +331,25 @@ returns-18 : tie.Need-returns-18
 returns-18 c =
     let u = c .before .before .before .before .before .before .before .before .pre in
     let p = c .before .before .before .before .before .before .before .before .args in
-    offers u 23 (last-rule _ (u .below) (u .used) (c .before .before .before .before .match .rest .0 .0 .0 .0 .0 .0 .0 .0 .0 .0 .0 .0 .0 .0 .0 .0 .1, c .before .before .before .before .match .rest .0 .0 .0 .0 .0 .0 .0 .0 .0 .0 .0 .0 .0 .0 .0 .1, c .before .before .before .before .match .rest .0 .0 .0 .0 .0 .0 .0 .0 .0 .0 .0 .0 .0 .0 .1, c .before .before .before .before .match .rest .0 .0 .0 .0 .0 .0 .0 .0 .0 .0 .0 .0 .0 .1, c .before .before .before .before .match .rest .0 .0 .0 .0 .0 .0 .0 .0 .0 .0 .0 .0 .1, c .before .before .before .before .match .rest .0 .0 .0 .0 .0 .0 .0 .0 .0 .0 .0 .1, c .before .before .before .before .match .rest .0 .0 .0 .0 .0 .0 .0 .0 .0 .0 .1, c .before .before .before .before .match .rest .0 .0 .0 .0 .0 .0 .0 .0 .0 .1, c .before .before .before .before .match .rest .0 .0 .0 .0 .0 .0 .0 .0 .1, c .before .before .before .before .match .rest .0 .0 .0 .0 .0 .0 .0 .1, c .before .before .before .before .match .rest .0 .0 .0 .0 .0 .0 .1, c .before .before .before .before .match .rest .0 .0 .0 .0 .0 .1, c .before .before .before .before .match .rest .0 .0 .0 .0 .1, c .before .before .before .before .match .rest .0 .0 .0 .1, c .before .before .before .before .match .rest .0 .0 .1, c .before .before .before .before .match .rest .0 .1, c .before .before .before .before .match .rest .1)) (c .before .before .before .offer-at17 .ensures) (c .before .before .offer-at18 .ensures) (refl {a = getD (p .signals .now) (2 * p .pb + 1) 0}) (refl {a = getD (p .signals .now) (2 * p .pc + 1) 0}) (c .before .merge-offer .result) _ (c .number-of9 .ensures) (merge-c (p .row .now) (p .cell .now) (p .pick) (numberOf (c .before .before .before .offer-at17 .result)) (numberOf (c .before .before .offer-at18 .result)) (getD (p .signals .now) (2 * p .pb + 1) 0) (getD (p .signals .now) (2 * p .pc + 1) 0) (numberOf (c .before .merge-offer .result)) (c .before .merge-offer .ensures))
+    offers u 23 (last-rule _ (u .below) (u .used) (c .before .before .before .before .match .rest .0 .0 .0 .0 .0 .0 .0 .0 .0 .0 .0 .0 .0 .0 .0 .0 .1, c .before .before .before .before .match .rest .0 .0 .0 .0 .0 .0 .0 .0 .0 .0 .0 .0 .0 .0 .0 .1, c .before .before .before .before .match .rest .0 .0 .0 .0 .0 .0 .0 .0 .0 .0 .0 .0 .0 .0 .1, c .before .before .before .before .match .rest .0 .0 .0 .0 .0 .0 .0 .0 .0 .0 .0 .0 .0 .1, c .before .before .before .before .match .rest .0 .0 .0 .0 .0 .0 .0 .0 .0 .0 .0 .0 .1, c .before .before .before .before .match .rest .0 .0 .0 .0 .0 .0 .0 .0 .0 .0 .0 .1, c .before .before .before .before .match .rest .0 .0 .0 .0 .0 .0 .0 .0 .0 .0 .1, c .before .before .before .before .match .rest .0 .0 .0 .0 .0 .0 .0 .0 .0 .1, c .before .before .before .before .match .rest .0 .0 .0 .0 .0 .0 .0 .0 .1, c .before .before .before .before .match .rest .0 .0 .0 .0 .0 .0 .0 .1, c .before .before .before .before .match .rest .0 .0 .0 .0 .0 .0 .1, c .before .before .before .before .match .rest .0 .0 .0 .0 .0 .1, c .before .before .before .before .match .rest .0 .0 .0 .0 .1, c .before .before .before .before .match .rest .0 .0 .0 .1, c .before .before .before .before .match .rest .0 .0 .1, c .before .before .before .before .match .rest .0 .1, c .before .before .before .before .match .rest .1)) (c .before .before .before .offer-at17 .ensures) (c .before .before .offer-at18 .ensures) (refl {a = getD (p .signals .now) (2 * p .pb + 1) 0}) (refl {a = getD (p .signals .now) (2 * p .pc + 1) 0}) (c .before .merge-offer .result) _ (c .byte-of-offer9 .ensures) (merge-c (p .row .now) (p .cell .now) (p .pick) (numberOf (c .before .before .before .offer-at17 .result)) (numberOf (c .before .before .offer-at18 .result)) (getD (p .signals .now) (2 * p .pb + 1) 0) (getD (p .signals .now) (2 * p .pc + 1) 0) (numberOf (c .before .merge-offer .result)) (c .before .merge-offer .ensures))
 
 pub signal-spec : {M : Type 1} → statement M
 signal-spec =
     tie.close
     (tie.spec
     source-offer-requires
-    number-of-requires
+    byte-of-offer-requires
     sink-take-requires
     bit-of-requires
     queue-take-requires
     bit-of-requires-2
     queue-offer-requires
-    number-of-requires-2
+    byte-of-offer-requires-2
     take-at-requires
     bit-of-requires-3
     offer-at-requires
     map-from-requires
-    number-of-requires-3
+    byte-of-offer-requires-3
     take-at-requires-2
     take-at-requires-3
     both-requires
@@ -358,12 +358,12 @@ signal-spec =
     take-at-requires-4
     take-at-requires-5
     fork-offer-requires
-    number-of-requires-4
+    byte-of-offer-requires-4
     offer-at-requires-3
     take-at-requires-6
     take-at-requires-7
     fork-offer-requires-2
-    number-of-requires-5
+    byte-of-offer-requires-5
     offer-at-requires-4
     offer-at-requires-5
     take-at-requires-8
@@ -377,7 +377,7 @@ signal-spec =
     offer-at-requires-8
     offer-at-requires-9
     join-offer-requires
-    number-of-requires-6
+    byte-of-offer-requires-6
     offer-at-requires-10
     take-at-requires-10
     take-at-requires-11
@@ -385,10 +385,10 @@ signal-spec =
     bit-of-requires-7
     offer-at-requires-11
     switch-offer-requires
-    number-of-requires-7
+    byte-of-offer-requires-7
     offer-at-requires-12
     switch-offer-requires-2
-    number-of-requires-8
+    byte-of-offer-requires-8
     offer-at-requires-13
     offer-at-requires-14
     take-at-requires-12
@@ -402,7 +402,7 @@ signal-spec =
     offer-at-requires-17
     offer-at-requires-18
     merge-offer-requires
-    number-of-requires-9
+    byte-of-offer-requires-9
     returns
     returns-2
     returns-3

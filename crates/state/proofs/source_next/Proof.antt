@@ -12,7 +12,7 @@ use Rattle.state.proofs.source_next.Tie as tie
 use Rattle.state.proofs.source_next.Reads as reads
 use Rattle.state.proofs.source_next.Lts as lts
 use Rattle.rules.proofs.HeldSource.next.Reads as next-reads
-use Rattle.state.proofs.byte_of.Reads as byte-of-reads
+use Rattle.rules.proofs.byte_of_offer.Reads as byte-of-offer-reads
 use Rattle.rules.proofs.offer_of_byte.Reads as offer-of-byte-reads
 
 slice-read-b : tie.Need-slice-read-b
@@ -27,14 +27,8 @@ offer-of-byte-requires-2 c κs = search needs
 next-requires : tie.Need-next-requires
 next-requires c κs = search needs
 
-byte-of-requires : tie.Need-byte-of-requires
-byte-of-requires c κs =
-    let z = c .before .before .before .before .before in
-    let b = getD (z .args .q .now) 0 0 in
-    let h : b ≤ 255 = omega (arith, c .before .before .before .slice-known2 .given 0) in
-    let p : z .args .pick ≤ 255 = omega arith in
-    let o : orElse b (z .args .pick) ≤ 255 = orElse-le b (z .args .pick) 255 h p in
-    rw (c .next .ensures, c .before .before .offer-of-byte .ensures, c .before .offer-of-byte2 .ensures) (search unless-le)
+byte-of-offer-requires : tie.Need-byte-of-offer-requires
+byte-of-offer-requires c κs = search needs
 
 slice-write-q : tie.Need-slice-write-q
 slice-write-q c = search needs
@@ -47,7 +41,10 @@ returns c =
     let z = c .before .before .before .before .before .before .args in
     let b = getD (z .q .now) 0 0 in
     let e : numberOf (c .before .next .result .held) ≡ unless (z .ma) (orElse b (z .pick)) = cc (unless-flag (z .ma) (orElse b (z .pick))) in
-    set-first (z .q .now) (c .byte-of .result) (omega arith) ∙ ap (λ (v : ℕ). v ∷ drop 1 (z .q .now)) (c .byte-of .ensures ∙ e)
+    let h : b ≤ 255 = omega (arith, c .before .before .before .before .slice-known2 .given 0) in
+    let p : z .pick ≤ 255 = omega arith in
+    let l : numberOf (c .before .next .result .held) ≤ 255 = rw e (unless-le (z .ma) (orElse b (z .pick)) 255 (orElse-le b (z .pick) 255 h p)) in
+    set-first (z .q .now) (c .byte-of-offer .result) (omega arith) ∙ ap (λ (v : ℕ). v ∷ drop 1 (z .q .now)) (c .byte-of-offer .ensures l ∙ e)
 
 pub source-next-spec : {M : Type 1} → statement M
 source-next-spec =
@@ -57,7 +54,7 @@ source-next-spec =
     offer-of-byte-requires
     offer-of-byte-requires-2
     next-requires
-    byte-of-requires
+    byte-of-offer-requires
     slice-write-q
     same-length
     returns)

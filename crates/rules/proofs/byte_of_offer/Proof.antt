@@ -1,9 +1,9 @@
 use native.Mathlib.Omega.{arith}
 use borrow.Author.Needs.{needs}
-use Rattle.signals.proofs.number_of.Statement.{statement}
-use Rattle.signals.proofs.number_of.Tie as tie
-use Rattle.signals.proofs.number_of.Reads as reads
-use Rattle.signals.proofs.number_of.Lts as lts
+use Rattle.rules.proofs.byte_of_offer.Statement.{statement}
+use Rattle.rules.proofs.byte_of_offer.Tie as tie
+use Rattle.rules.proofs.byte_of_offer.Reads as reads
+use Rattle.rules.proofs.byte_of_offer.Lts as lts
 
 enum-known-o : tie.Need-enum-known-o
 enum-known-o c = search needs
@@ -23,5 +23,5 @@ returns-2 c h = absurd (let w = rw (c .before .before .o .given .1) at h in omeg
 returns-3 : tie.Need-returns-3
 returns-3 c h = rw (c .enum-told .given .1)
 
-pub number-of-spec : {M : Type 1} → statement M
-number-of-spec = tie.close (tie.spec enum-known-o add-result returns enum-told returns-2 returns-3)
+pub byte-of-offer-spec : {M : Type 1} → statement M
+byte-of-offer-spec = tie.close (tie.spec enum-known-o add-result returns enum-told returns-2 returns-3)
