@@ -6,7 +6,7 @@ ghost use lib.ListN.{length, getD, drop};
 ghost use lib.Seq.{paste};
 ghost use Rattle.component.specs.Kind.{queue, kindOf};
 ghost use Rattle.component.specs.Netlist.{netlist};
-ghost use Rattle.rules.specs.Rules.{numberOf, unless, offered, orElse, component};
+ghost use Rattle.rules.specs.Rules.{unless, offered, orElse, component};
 ghost use Rattle.state.specs.Cells.{coloursOf, cellWith};
 ghost use Rattle.state.specs.Step.{dropped, appended, cellNext, stateNext};
 ghost use Rattle.state.specs.Updatable.{Queue, newest, Moves, Updatable};
