@@ -13,8 +13,8 @@ use Rattle.wiring.specs.Signals.{offerA, offerB, takeB, takeC}
 use Rattle.rules.specs.Rules.{when, offered, orElse, rule}
 use Rattle.signals.specs.Signals.{cell, componentAt, near, value, moved}
 use Rattle.state.specs.Good.{emitted}
-use Rattle.state.specs.Cells.{coloursOf}
-use Rattle.state.specs.Step.{cellNext, appended, dropped, next, Steps}
+use Rattle.state.specs.Cells.{queueColours}
+use Rattle.state.specs.Step.{cellNext, appended, dropped, next, CanStep}
 use Rattle.state.proofs.Cells.{colours-of-cell}
 use Rattle.state.proofs.Good.{and-right, cell-long, source-held}
 use Rattle.state.proofs.Choices.{source-choice}
@@ -35,14 +35,14 @@ either-emitted r zero b h k = k
 either-emitted r (suc a) b h k = h
 
 -- a queue that is not empty has its front first
-front-first : (s : List ℕ) → length s ≡ 64 → 0 < getD s 0 0 → coloursOf s ≡ getD s 1 0 ∷ take (getD s 0 0 - 1) (drop 2 s)
-unfolding coloursOf
+front-first : (s : List ℕ) → length s ≡ 64 → 0 < getD s 0 0 → queueColours s ≡ getD s 1 0 ∷ take (getD s 0 0 - 1) (drop 2 s)
+unfolding queueColours
 front-first [] l h = absurd (omega arith)
 front-first (zero ∷ s) l h = absurd (omega arith)
 front-first (suc b ∷ []) l h = absurd (omega arith)
 front-first (suc b ∷ x ∷ s) l h = let e : suc b - 1 ≡ b = omega arith in rw e
 
-module _ (f : Netlist) (ends order state choices : List ℕ) (s : Steps f ends order state choices) (k : ℕ) (h : k < f .components) where
+module _ (f : Netlist) (ends order state choices : List ℕ) (s : CanStep f ends order state choices) (k : ℕ) (h : k < f .components) where
   abbrev row : List ℕ
   row = rowOf f k
 
@@ -92,10 +92,10 @@ module _ (f : Netlist) (ends order state choices : List ℕ) (s : Steps f ends o
       mb = moved f state choices (port row B)
 
       cs : List ℕ
-      cs = coloursOf (cell state k)
+      cs = queueColours (cell state k)
 
-      after : coloursOf (cell (next f state choices) k) ≡ appended ma (dropped mb cs)
-      after = ap coloursOf (rw e at (next-cell f ends order state choices s k h)) ∙ colours-of-cell (appended ma (dropped mb cs))
+      after : queueColours (cell (next f state choices) k) ≡ appended ma (dropped mb cs)
+      after = ap queueColours (rw e at (next-cell f ends order state choices s k h)) ∙ colours-of-cell (appended ma (dropped mb cs))
 
       front : 0 < mb → Front mb cs
       front l =

@@ -13,11 +13,10 @@ use Rattle.component.specs.Row.{kind, port, firstMap, secondMap, masked}
 use Rattle.component.specs.Netlist.{Netlist, rowOf}
 use Rattle.rules.specs.Rules.{bit, offered, when, unless, mapped, toB}
 use Rattle.signals.specs.Signals.{moved}
-use Rattle.state.specs.Step.{next, Steps}
+use Rattle.state.specs.Step.{next, CanStep}
 use Rattle.state.proofs.Good.{and-left, and-right}
 use Rattle.state.proofs.Bounds.{moved-le}
-use Rattle.equations.specs.Equations.{flow, all, less, side, hasIndex, hasEquation, factor}
-use Rattle.equations.specs.Equations as Equations
+use Rattle.equations.specs.Equations.{flow, mappedTo, allOf, less, side, hasIndex, hasEquation, factor}
 use Rattle.balance.specs.Counts.{counts}
 use Rattle.balance.specs.Balance.{Balanced, transfer}
 use Rattle.flows.specs.Steps.{flowChange, countChange, Holds}
@@ -60,16 +59,16 @@ module _ (f : Netlist) (t : ℕ → ℕ) (r : List ℕ) (inside : (p : Port) →
       amounts-part (port r p) (inside p) (small p) (flow (port r p) e) (λ m. bit (eqb m (suc e))) (rw eqb·zero-suc)
       (λ x d. rw eqb·suc-suc (both (eqb x (port r p)) (eqb d e)))
 
-  to : (p : Port) (map : ℕ → ℕ) (e : ℕ) → Amounts f t (Equations.mapped (port r p) map e) (bit (eqb (mapped map (t (port r p))) (suc e)))
+  to : (p : Port) (map : ℕ → ℕ) (e : ℕ) → Amounts f t (mappedTo (port r p) map e) (bit (eqb (mapped map (t (port r p))) (suc e)))
   to p map e =
-      amounts-part (port r p) (inside p) (small p) (Equations.mapped (port r p) map e) (λ m. bit (eqb (mapped map m) (suc e))) (rw eqb·zero-suc)
+      amounts-part (port r p) (inside p) (small p) (mappedTo (port r p) map e) (λ m. bit (eqb (mapped map m) (suc e))) (rw eqb·zero-suc)
       (λ x d. rw eqb·suc-suc (both (eqb x (port r p)) (eqb (map d) e)))
 
-  any : (p : Port) → Amounts f t (all (port r p)) (offered (t (port r p)))
-  any p = amounts-part (port r p) (inside p) (small p) (all (port r p)) offered refl (λ x d. refl)
+  any : (p : Port) → Amounts f t (allOf (port r p)) (offered (t (port r p)))
+  any p = amounts-part (port r p) (inside p) (small p) (allOf (port r p)) offered refl (λ x d. refl)
 
   -- what goes out at p is what came in at A, mapped
-  maps : (p : Port) (map : ℕ → ℕ) (e : ℕ) → t (port r p) ≡ mapped map (t (port r A)) → Amounts f t (less (flow (port r p) e) (Equations.mapped (port r A) map e)) 0
+  maps : (p : Port) (map : ℕ → ℕ) (e : ℕ) → t (port r p) ≡ mapped map (t (port r A)) → Amounts f t (less (flow (port r p) e) (mappedTo (port r A) map e)) 0
   maps p map e q = amounts-even (ap (λ (s : ℕ). bit (eqb s (suc e))) q) (one p e) (to A map e)
 
   module _ (n m : ℕ → ℕ) (i : ℕ) where
@@ -97,7 +96,7 @@ module _ (f : Netlist) (t : ℕ → ℕ) (r : List ℕ) (inside : (p : Port) →
         (amounts-even (rw (b .1) (share r (i - 8) (t (port r A)) .1)) (one C (i - 8)) (amounts-when (not (masked r (i - 8))) (one A (i - 8)))))
     by-kind merge b x = still (amounts-even refl (amounts-less (merged b) (one C i) (one A i)) (one B i))
 
-pub holds : (f : Netlist) (ends order state choices : List ℕ) → Steps f ends order state choices → Holds f (transfer (moved f state choices)) (counts state) (counts (next f state choices))
+pub holds : (f : Netlist) (ends order state choices : List ℕ) → CanStep f ends order state choices → Holds f (transfer (moved f state choices)) (counts state) (counts (next f state choices))
 unfolding flowChange countChange factor hasEquation total
 holds f ends order state choices s = record {
   holds = λ k i x.

@@ -10,7 +10,7 @@ use Rattle.component.specs.Netlist.{Netlist}
 use Rattle.integers.specs.Sum.{sumTo, same}
 use Rattle.integers.proofs.Ring.{regroup, distrib-r, neg-*ℤ}
 use Rattle.integers.proofs.Sum.{sum-cong, sum-zero, sum-add, sum-minus, sum-only, same-yes, same-no}
-use Rattle.equations.specs.Equations.{Side, less, when}
+use Rattle.equations.specs.Equations.{Side, less, sideIf}
 use Rattle.balance.specs.Balance.{transfer}
 
 -- an equation's side, or part of one, over one step with the moves t
@@ -59,7 +59,7 @@ module _ {f : Netlist} {t : ℕ → ℕ} where
   pub amounts-even : {a b : Side} {u v : ℕ} → u ≡ v → Amounts f t a u → Amounts f t b v → Amounts f t (less a b) 0
   amounts-even e p q = amounts-less (omega arith) p q
 
-  pub amounts-when : (b : Bool) {a : Side} {u : ℕ} → Amounts f t a u → Amounts f t (when b a) (cond b u 0)
+  pub amounts-when : (b : Bool) {a : Side} {u : ℕ} → Amounts f t a u → Amounts f t (sideIf b a) (cond b u 0)
   unfolding total
   amounts-when true p = p
   amounts-when false p = record { is = sum-zero (f .channels) _ (λ x l. sum-zero (f .colours) _ (λ d l. zero-*ℤ (transfer t x d))) }

@@ -4,7 +4,7 @@ use Prim.Native.Nat.{ℕ, _+_}
 use lib.Dec.{eqb}
 use Rattle.rules.specs.Rules.{bit}
 use Rattle.signals.specs.Signals.{cell}
-use Rattle.state.specs.Cells.{coloursOf}
+use Rattle.state.specs.Cells.{queueColours}
 
 -- how many of the colours are d
 abbrev pub countIn : List ℕ → ℕ → ℕ
@@ -13,4 +13,4 @@ countIn (c ∷ cs) d = bit (eqb c d) + countIn cs d
 
 -- n(q,d) is the count of d among the first colours of q, as many as byte 0 of q says
 abbrev pub counts : List ℕ → ℕ → ℕ → ℕ
-counts state q d = countIn (coloursOf (cell state q)) d
+counts state q d = countIn (queueColours (cell state q)) d

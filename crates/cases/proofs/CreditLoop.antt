@@ -15,11 +15,11 @@ use Rattle.component.specs.Row.{rowOk}
 use Rattle.component.specs.Netlist.{netlist}
 use Rattle.wiring.specs.Ends.{firstUnmatched}
 use Rattle.wiring.specs.Signals.{dependsOn, nearOf, endOf, dependence}
-use Rattle.wiring.specs.Steps.{Kinds}
+use Rattle.wiring.specs.Stages.{Kinds}
 use Rattle.reader.specs.File.{headerFields, firstBadRecord}
 use Rattle.reader.specs.Reading.{reading}
 use Rattle.reader.specs.Accepted.{AcceptedFabric, ReadOf}
-use Rattle.reader.specs.Steps.{Unpacking}
+use Rattle.reader.specs.Stages.{Unpacking}
 use Rattle.reader.specs.declared.Reading.{Reading}
 use Rattle.reader.specs.declared.Reading.the-variants.{Fabric}
 use Rattle.reader.proofs.Accepted.{accepted-records}

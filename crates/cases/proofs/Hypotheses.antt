@@ -19,7 +19,7 @@ use Rattle.signals.specs.Signals.{moved, moves}
 use Rattle.signals.specs.Channels.{Ready}
 use Rattle.state.specs.Choices.{goodChoice, choiceAt, badChoice}
 use Rattle.state.specs.Start.{started}
-use Rattle.state.specs.Step.{next, Steps}
+use Rattle.state.specs.Step.{next, CanStep}
 use Rattle.state.specs.Updatable.{Updatable}
 use Rattle.state.proofs.Bounds.{steps-ready}
 use Rattle.state.proofs.Choices.{no-bad-choice}
@@ -44,7 +44,7 @@ module _ (f : Netlist) (ends order : List ℕ) (a : AcceptedFabric f ends order)
   pub startable-met : Startable (f .table) (f .components) state
   startable-met = startable f ends order a state room
 
-  pub steps-met : Steps f ends order (started f state) choices
+  pub steps-met : CanStep f ends order (started f state) choices
   steps-met = record { accepted = a; good = good-start f ends order a state room; allowed = no-bad-choice f choices long none }
 
   -- with a plan laid out in any memory that is long enough
@@ -70,7 +70,7 @@ unfolding badChoice choiceAt goodChoice least creditFile creditTable packedFile 
 credit-choices = refl
 
 pub credit-steps : (before after ends order : List ℕ) (answer : Reading) → ReadOf creditFile before after answer ends order → (state : List ℕ) → 384 ≤ length state
-    → Steps (netlist 1 6 6 (openTable creditFile 6)) ends order (started (netlist 1 6 6 (openTable creditFile 6)) state) creditChoices
+    → CanStep (netlist 1 6 6 (openTable creditFile 6)) ends order (started (netlist 1 6 6 (openTable creditFile 6)) state) creditChoices
 credit-steps before after ends order answer r state l =
     steps-met (netlist 1 6 6 (openTable creditFile 6)) ends order (credit-accepted before after ends order answer r) creditChoices refl credit-choices state l
 
@@ -83,6 +83,6 @@ unfolding badChoice choiceAt goodChoice least eightFile eightTable packedFile he
 eight-choices = refl
 
 pub eight-steps : (before after ends order : List ℕ) (answer : Reading) → ReadOf eightFile before after answer ends order → (state : List ℕ) → 576 ≤ length state
-    → Steps (netlist 2 10 9 (openTable eightFile 9)) ends order (started (netlist 2 10 9 (openTable eightFile 9)) state) eightChoices
+    → CanStep (netlist 2 10 9 (openTable eightFile 9)) ends order (started (netlist 2 10 9 (openTable eightFile 9)) state) eightChoices
 eight-steps before after ends order answer r state l =
     steps-met (netlist 2 10 9 (openTable eightFile 9)) ends order (r .facts 2 10 9 eight-reads) eightChoices refl eight-choices state l

@@ -16,7 +16,7 @@ use Rattle.fabric.specs.PackedFile.{headerBytes, packedFile}
 use Rattle.fabric.specs.Calls.{packed}
 use Rattle.rules.specs.Rules.{rule}
 use Rattle.signals.specs.Signals.{ruleOf, value, moved, moves}
-use Rattle.state.specs.Cells.{coloursOf, cellWith, cells}
+use Rattle.state.specs.Cells.{queueColours, cellWith, cells}
 use Rattle.state.specs.Choices.{goodChoice, choiceAt, badChoice}
 use Rattle.state.specs.Good.{goodByte, all, goodCell, badComponent}
 use Rattle.state.specs.Start.{startCell, startAt, started}
@@ -33,5 +33,5 @@ use Rattle.cases.specs.CreditLoop.{creditTable, creditFile, forkIntoJoin
 use Rattle.cases.specs.Starred.{starred, found, expected}
 
 pub all-starred : found starred ≡ expected starred
-unfolding starred creditTable creditFile forkIntoJoin packedFile headerBytes headerFields records recordBytes recordRow recordPad openTable firstBadRow firstBadRecord firstUnmatched endOf dependence dependsOn nearOf least count any walks hasCircle rowOk kindOf portOf portUse usesFirstMap usesSecondMap usesMask isSource isQueue packed netlistIn startVerdict stateAfterStart stepVerdict stateAfterStep movesAfterStep checkVerdict checkConstant weightsAfterCheck started cells startAt startCell cellWith coloursOf goodChoice choiceAt badChoice goodByte all goodCell badComponent cellNext nextAt stateNext next moves moved value val ruleOf rule sumTo isZero side hasIndex hasEquation factor component index multiplier flowSum weight entry acceptedSum constant badTerm isLeft isWeight constantBy upTo tableBy spelled decimal weightLine weightLines sumLine textBy listingOf listing
+unfolding starred creditTable creditFile forkIntoJoin packedFile headerBytes headerFields records recordBytes recordRow recordPad openTable firstBadRow firstBadRecord firstUnmatched endOf dependence dependsOn nearOf least count any walks hasCircle rowOk kindOf portOf portUse usesFirstMap usesSecondMap usesMask isSource isQueue packed netlistIn startVerdict stateAfterStart stepVerdict stateAfterStep movesAfterStep checkVerdict checkConstant weightsAfterCheck started cells startAt startCell cellWith queueColours goodChoice choiceAt badChoice goodByte all goodCell badComponent cellNext nextAt stateNext next moves moved value val ruleOf rule sumTo isZero side hasIndex hasEquation factor component index multiplier flowSum weight entry acceptedSum constant badTerm isLeft isWeight constantBy upTo tableBy spelled decimal weightLine weightLines sumLine textBy listingOf listing
 all-starred = refl

@@ -11,18 +11,18 @@ use borrow.Author.Tests.{lt-ltb, le-ltb}
 use Rattle.component.specs.Netlist.{Netlist, netlist}
 use Rattle.refusals.specs.Refusals.{test, firstRefusal}
 use Rattle.refusals.specs.declared.Refusal.{Refusal}
-use Rattle.refusals.specs.declared.Refusal.the-variants.{Space}
+use Rattle.refusals.specs.declared.Refusal.the-variants.{ResultSpace}
 use Rattle.refusals.specs.declared.Verdict.{Verdict}
 use Rattle.refusals.specs.declared.Verdict.the-variants.{Accepted, Refused}
 use Rattle.refusals.proofs.Refusals.{refusal-append}
 use Rattle.reader.specs.Reading.{reading}
 use Rattle.reader.specs.Accepted.{AcceptedFabric}
 use Rattle.reader.specs.declared.Reading.the-variants.{Rejected}
-use Rattle.fabric.specs.Steps.{roomFor}
+use Rattle.fabric.specs.Stages.{roomFor}
 use Rattle.fabric.proofs.Unpacked.{space-last}
 use Rattle.flows.specs.Verdict.{judgeTests, judged, constantBy, tableBy, ReadFabric}
 use Rattle.checker.specs.Calls.{netlistIn, checkVerdict, checkConstant, weightsAfterCheck}
-use Rattle.checker.specs.Steps.{orZero}
+use Rattle.checker.specs.Stages.{orZero}
 use Rattle.checker.proofs.Files.{rest-refused, rest-judged, Opened}
 
 -- what the reader gives is what the verdict asks for
@@ -38,7 +38,7 @@ unfolding constantBy
 constant-room (Refused r) space need f p = refl
 constant-room Accepted space need f p = go (ltb space need)
   where
-    go : (b : Bool) → orZero (cond b (Refused Space) Accepted) (constantBy Accepted f p) ≡ constantBy (cond b (Refused Space) Accepted) f p
+    go : (b : Bool) → orZero (cond b (Refused ResultSpace) Accepted) (constantBy Accepted f p) ≡ constantBy (cond b (Refused ResultSpace) Accepted) f p
     go true = refl
     go false = refl
 
@@ -52,7 +52,7 @@ module _ (file p : List ℕ) where
   module _ {r : Refusal} (e : reading file ≡ Rejected r) where
     pub check-refused : (space : ℕ) → Refused r ≡ checkVerdict file p space
     unfolding checkVerdict
-    check-refused space = sym (rest-refused file (judgeTests (netlistIn file) p ++ (test Space (ltb space (8 * netlistIn file .components)) ∷ [])) e)
+    check-refused space = sym (rest-refused file (judgeTests (netlistIn file) p ++ (test ResultSpace (ltb space (8 * netlistIn file .components)) ∷ [])) e)
 
     pub check-zero : (space : ℕ) → pos 0 ≡ checkConstant file p space
     unfolding checkConstant constantBy
@@ -71,9 +71,9 @@ module _ (file p : List ℕ) where
     unfolding checkVerdict judged
     check-judged space =
         space-last (judged f p) space (8 * N)
-        ∙ sym (refusal-append (judgeTests f p) (test Space (ltb space (8 * N)) ∷ []))
-        ∙ sym (rest-judged file (o .reads) (judgeTests (netlistIn file) p ++ (test Space (ltb space (8 * netlistIn file .components)) ∷ []))
-        ∙ ap (λ (g : Netlist). firstRefusal (judgeTests g p ++ (test Space (ltb space (8 * g .components)) ∷ []))) (o .same))
+        ∙ sym (refusal-append (judgeTests f p) (test ResultSpace (ltb space (8 * N)) ∷ []))
+        ∙ sym (rest-judged file (o .reads) (judgeTests (netlistIn file) p ++ (test ResultSpace (ltb space (8 * netlistIn file .components)) ∷ []))
+        ∙ ap (λ (g : Netlist). firstRefusal (judgeTests g p ++ (test ResultSpace (ltb space (8 * g .components)) ∷ []))) (o .same))
 
     pub check-constant : (space : ℕ) (v : Verdict) (k : ℤ) → v ≡ judged f p → k ≡ constantBy (judged f p) f p → orZero (roomFor v space (8 * N)) k ≡ checkConstant file p space
     unfolding checkConstant

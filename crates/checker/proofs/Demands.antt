@@ -15,7 +15,7 @@ use Rattle.component.specs.Kind.{Kind, source, sink, queue, function, fork, joi
 use Rattle.component.specs.Row.{kind}
 use Rattle.component.specs.Netlist.{Netlist, rowOf}
 use Rattle.refusals.specs.Refusals.{Test, test, firstRefusal}
-use Rattle.refusals.specs.declared.Refusal.the-variants.{State, Cell, Choices, Choice, Space}
+use Rattle.refusals.specs.declared.Refusal.the-variants.{StateShort, BadState, ChoiceCount, BadChoice, ResultSpace}
 use Rattle.refusals.specs.declared.Verdict.{Verdict}
 use Rattle.refusals.specs.declared.Verdict.the-variants.{Accepted, Refused}
 use Rattle.refusals.proofs.Refusals.{andThen, refusal-append, cond-accepted, then-accepted}
@@ -44,7 +44,7 @@ use Rattle.balance.proofs.Holds.{holds}
 use Rattle.roundtrip.proofs.RoundTrip.{roundTripFile, roundTripTable, writtenAccepted, oneFile, oneTable}
 use Rattle.signals.proofs.Signals.{value-rule, value-only}
 use Rattle.checker.specs.Calls.{netlistIn, kept, shortState, startVerdict, stateAfterStart, stepVerdict, stateAfterStep, afterSteps, runVerdict, stateAfterRun, checkVerdict, checkConstant}
-use Rattle.checker.specs.Steps.{readyTests}
+use Rattle.checker.specs.Stages.{readyTests}
 use Rattle.checker.specs.Demands.{Call, start, step, run, stateAfter, stateAfterAll, verdictOn, ConstantSums, AcceptedExactly, GoodAlways, FilesAndTables, StepSignals}
 use Rattle.checker.proofs.Checking.{read-fabric}
 use Rattle.checker.proofs.Stepping.{ready-facts}
@@ -72,7 +72,7 @@ unfolding stepVerdict
 step-allowed file s c space e =
     let f : Netlist = netlistIn file in
     let uneven : Bool = not (eqb (length c) (f .components)) in
-    let last : List Test = test Space (ltb space (f .channels)) ∷ [] in
+    let last : List Test = test ResultSpace (ltb space (f .channels)) ∷ [] in
     let q = then-accepted (firstRefusal (readyTests f s c uneven)) (firstRefusal last) (sym (refusal-append (readyTests f s c uneven) last) ∙ after-file file (readyTests f s c uneven ++ last) e .1) .0 in
     let r = ready-facts f s c uneven q in
     no-bad-choice f c (eqb-true (length c) (f .components) (not-false (eqb (length c) (f .components)) (r .even))) (r .allowed)
@@ -124,7 +124,7 @@ started-file : (file : List ℕ) (space : ℕ) → startVerdict file space ≡ A
 unfolding startVerdict
 started-file file space e =
     let q = after-file file (shortState (netlistIn file) space ∷ []) e in
-    (q .0, ltb-false space (64 * netlistIn file .components) (cond-accepted State (ltb space (64 * netlistIn file .components)) Accepted (q .1) .0))
+    (q .0, ltb-false space (64 * netlistIn file .components) (cond-accepted StateShort (ltb space (64 * netlistIn file .components)) Accepted (q .1) .0))
 
 start-writes : (file state : List ℕ) → startVerdict file (length state) ≡ Accepted → stateAfterStart file state ≡ started (netlistIn file) state
 unfolding stateAfterStart
@@ -167,7 +167,7 @@ checked : (file p : List ℕ) (space : ℕ) → checkVerdict file p space ≡ Ac
 unfolding checkVerdict judged
 checked file p space e =
     let f : Netlist = netlistIn file in
-    let last : List Test = test Space (ltb space (8 * f .components)) ∷ [] in
+    let last : List Test = test ResultSpace (ltb space (8 * f .components)) ∷ [] in
     then-accepted (firstRefusal (judgeTests f p)) (firstRefusal last) (sym (refusal-append (judgeTests f p) last) ∙ after-file file (judgeTests f p ++ last) e .1) .0
 
 check-constant-is : (file p : List ℕ) (space : ℕ) → checkVerdict file p space ≡ Accepted → checkConstant file p space ≡ constant (netlistIn file) p
@@ -178,7 +178,7 @@ check-given : (file p : List ℕ) (space : ℕ) → firstRefusal (fileTests file
 unfolding checkVerdict judged
 check-given file p space ok room e =
     let f : Netlist = netlistIn file in
-    let last : List Test = test Space (ltb space (8 * f .components)) ∷ [] in
+    let last : List Test = test ResultSpace (ltb space (8 * f .components)) ∷ [] in
     rest-of file ok (judgeTests f p ++ last) ∙ refusal-append (judgeTests f p) last ∙ ap (λ (v : Verdict). andThen v (firstRefusal last)) e ∙ rw (le-ltb space (8 * f .components) room)
 
 pub constantSums : ConstantSums
@@ -202,17 +202,17 @@ acceptedExactly file p space ok formed room =
 
 -- ---- no call is refused because of the state
 abbrev Stateless : Verdict → Type 0
-Stateless v = (v ≡ Refused State → ⊥) × ((k : ℕ) → v ≡ Refused (Cell k) → ⊥)
+Stateless v = (v ≡ Refused StateShort → ⊥) × ((k : ℕ) → v ≡ Refused (BadState k) → ⊥)
 
 -- what is left once 21 and 22 are not met
-others : (a b c : Bool) (o : ℕ) → Stateless (cond a (Refused Choices) (cond b (Refused (Choice o)) (cond c (Refused Space) Accepted)))
+others : (a b c : Bool) (o : ℕ) → Stateless (cond a (Refused ChoiceCount) (cond b (Refused (BadChoice o)) (cond c (Refused ResultSpace) Accepted)))
 others true b c o = (λ e. let z : _≡_ {A = ℕ} 0 1 = cc in absurd (omega arith), λ k e. let z : _≡_ {A = ℕ} 0 1 = cc in absurd (omega arith))
 others false true c o = (λ e. let z : _≡_ {A = ℕ} 0 1 = cc in absurd (omega arith), λ k e. let z : _≡_ {A = ℕ} 0 1 = cc in absurd (omega arith))
 others false false true o = (λ e. let z : _≡_ {A = ℕ} 0 1 = cc in absurd (omega arith), λ k e. let z : _≡_ {A = ℕ} 0 1 = cc in absurd (omega arith))
 others false false false o = (λ e. let z : _≡_ {A = ℕ} 0 1 = cc in absurd (omega arith), λ k e. let z : _≡_ {A = ℕ} 0 1 = cc in absurd (omega arith))
 
 good-passes : (f : Netlist) (s c : List ℕ) (uneven : Bool) (rest : List Test) → Good f s
-    → firstRefusal (readyTests f s c uneven ++ rest) ≡ cond uneven (Refused Choices) (cond (ltb (badChoice f c) (length c)) (Refused (Choice (badChoice f c))) (firstRefusal rest))
+    → firstRefusal (readyTests f s c uneven ++ rest) ≡ cond uneven (Refused ChoiceCount) (cond (ltb (badChoice f c) (length c)) (Refused (BadChoice (badChoice f c))) (firstRefusal rest))
 good-passes f s c uneven rest g =
     let n : f .components ≤ f .components = omega arith in
     rw (le-ltb (length s) (64 * f .components) (g .long), good-no-bad f s g, le-ltb (f .components) (f .components) n)
@@ -224,7 +224,7 @@ verdict-stateless file ok start s g =
 verdict-stateless file ok (step c space) s g =
     let f : Netlist = netlistIn file in
     let uneven : Bool = not (eqb (length c) (f .components)) in
-    let last : List Test = test Space (ltb space (f .channels)) ∷ [] in
+    let last : List Test = test ResultSpace (ltb space (f .channels)) ∷ [] in
     subst Stateless (sym (rest-of file ok (readyTests f s c uneven ++ last) ∙ good-passes f s c uneven last g)) (others uneven (ltb (badChoice f c) (length c)) (ltb space (f .channels)) (badChoice f c))
 verdict-stateless file ok (run c) s g =
     let f : Netlist = netlistIn file in

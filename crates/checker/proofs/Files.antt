@@ -12,8 +12,8 @@ use Rattle.refusals.specs.declared.Refusal.{Refusal}
 use Rattle.refusals.specs.declared.Verdict.{Verdict}
 use Rattle.refusals.specs.declared.Verdict.the-variants.{Accepted, Refused}
 use Rattle.refusals.proofs.Refusals.{andThen, refusal-append, cond-accepted}
-use Rattle.refusals.specs.declared.Refusal.the-variants.{Space}
-use Rattle.fabric.specs.Steps.{roomFor}
+use Rattle.refusals.specs.declared.Refusal.the-variants.{ResultSpace}
+use Rattle.fabric.specs.Stages.{roomFor}
 use lib.Dec.{ltb}
 use borrow.Author.Tests.{ltb-false}
 use Rattle.reader.specs.File.{fileTests}
@@ -70,5 +70,5 @@ room-accepted Accepted space need e = refl
 room-accepted (Refused r) space need e = e
 
 pub room-space : (v : Verdict) (space need : ℕ) → roomFor v space need ≡ Accepted → need ≤ space
-room-space Accepted space need e = ltb-false space need (cond-accepted Space (ltb space need) Accepted e .0)
+room-space Accepted space need e = ltb-false space need (cond-accepted ResultSpace (ltb space need) Accepted e .0)
 room-space (Refused r) space need e = let z : _≡_ {A = ℕ} 0 1 = cc in absurd (omega arith)

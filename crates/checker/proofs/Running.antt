@@ -21,10 +21,10 @@ use Rattle.reader.specs.Reading.{reading}
 use Rattle.reader.specs.declared.Reading.the-variants.{Rejected}
 use Rattle.state.specs.Good.{Good}
 use Rattle.state.specs.Choices.{Allowed, choiceAt, badChoice}
-use Rattle.state.specs.Step.{next, Steps}
+use Rattle.state.specs.Step.{next, CanStep}
 use Rattle.state.proofs.Step.{good-step, next-length}
 use Rattle.checker.specs.Calls.{netlistIn, kept, afterSteps, runVerdict, stateAfterRun}
-use Rattle.checker.specs.Steps.{readyTests, Runs}
+use Rattle.checker.specs.Stages.{readyTests, Runs}
 use Rattle.checker.proofs.Files.{rest-refused, rest-judged, Opened}
 use Rattle.checker.proofs.Stepping.{ready-facts}
 
@@ -97,7 +97,7 @@ module _ {f : Netlist} {ends order state choices st : List ℕ} {i j : ℕ} (r :
   rest-long : f .components ≤ length (drop i choices)
   rest-long = rw length-drop (omega (arith, run-room))
 
-  pub run-ready : Steps f ends order st (take (f .components) (drop i choices))
+  pub run-ready : CanStep f ends order st (take (f .components) (drop i choices))
   run-ready = record { accepted = r .accepted; good = u .good; allowed = first-allowed f (drop i choices) (u .allowed) rest-long }
 
   pub run-more : Running f state choices (next f st (take (f .components) (drop i choices))) (i + f .components) (j + 1)

@@ -12,13 +12,13 @@ use Rattle.digits.proofs.Least.{least-le}
 use Rattle.component.specs.Netlist.{Netlist, netlist}
 use Rattle.refusals.specs.Refusals.{test, firstRefusal}
 use Rattle.refusals.specs.declared.Refusal.{Refusal}
-use Rattle.refusals.specs.declared.Refusal.the-variants.{State, Cell, Choices, Choice, Space}
+use Rattle.refusals.specs.declared.Refusal.the-variants.{StateShort, BadState, ChoiceCount, BadChoice, ResultSpace}
 use Rattle.refusals.specs.declared.Verdict.{Verdict}
 use Rattle.refusals.specs.declared.Verdict.the-variants.{Accepted, Refused}
 use Rattle.refusals.proofs.Refusals.{refusal-append, cond-accepted}
 use Rattle.reader.specs.Reading.{reading}
 use Rattle.reader.specs.declared.Reading.the-variants.{Fabric, Rejected}
-use Rattle.fabric.specs.Steps.{roomFor}
+use Rattle.fabric.specs.Stages.{roomFor}
 use Rattle.fabric.proofs.Unpacked.{space-last}
 use Rattle.signals.specs.Signals.{moves, moved}
 use Rattle.digits.proofs.UpTo.{length-upTo}
@@ -31,10 +31,10 @@ use Rattle.state.proofs.Good.{no-bad-component}
 use Rattle.state.proofs.Choices.{no-bad-choice}
 use Rattle.state.specs.Choices.{choiceAt, badChoice}
 use Rattle.state.specs.Start.{started}
-use Rattle.state.specs.Step.{next, stateNext, Steps}
+use Rattle.state.specs.Step.{next, stateNext, CanStep}
 use Rattle.state.specs.Updatable.{Updatable}
 use Rattle.checker.specs.Calls.{netlistIn, kept, shortState, startVerdict, stateAfterStart, stepVerdict, stateAfterStep, movesAfterStep}
-use Rattle.checker.specs.Steps.{readyTests, Along}
+use Rattle.checker.specs.Stages.{readyTests, Along}
 use Rattle.checker.proofs.Files.{rest-refused, rest-judged, Opened}
 
 -- ---- one step
@@ -56,28 +56,28 @@ module _ (f : Netlist) (state choices out after : List ℕ) (e : after ≡ moves
   next-from = ap (stateNext f state choices) moves-front
 
 -- along the plan's own order
-pub along-steps : {f : Netlist} {plan state choices : List ℕ} (a : Along f plan state choices) → Steps f (a .planned .ends) (a .planned .order) state choices
+pub along-steps : {f : Netlist} {plan state choices : List ℕ} (a : Along f plan state choices) → CanStep f (a .planned .ends) (a .planned .order) state choices
 along-steps a = record { accepted = a .planned .accepted; good = a .good; allowed = a .allowed }
 
 -- a step along a plan that is laid out for it
-pub steps-along : {f : Netlist} {ends order plan state choices : List ℕ} → Steps f ends order state choices → Planned f plan → Along f plan state choices
+pub steps-along : {f : Netlist} {ends order plan state choices : List ℕ} → CanStep f ends order state choices → Planned f plan → Along f plan state choices
 steps-along t p = record { planned = p; good = t .good; allowed = t .allowed }
 
 -- ---- 21, 22, 9 and 10
 module _ (f : Netlist) (state choices : List ℕ) (uneven : Bool) where
-  pub ready-short : length state < 64 * f .components → Refused State ≡ firstRefusal (readyTests f state choices uneven)
+  pub ready-short : length state < 64 * f .components → Refused StateShort ≡ firstRefusal (readyTests f state choices uneven)
   ready-short h = rw (lt-ltb (length state) (64 * f .components) h)
 
   module _ (long : 64 * f .components ≤ length state) (bad : ℕ) (eb : bad ≡ badComponent f state) where
-    pub ready-cell : bad < f .components → Refused (Cell bad) ≡ firstRefusal (readyTests f state choices uneven)
+    pub ready-cell : bad < f .components → Refused (BadState bad) ≡ firstRefusal (readyTests f state choices uneven)
     ready-cell h = rw (le-ltb (length state) (64 * f .components) long, ← eb, lt-ltb bad (f .components) h)
 
     module _ (good : f .components ≤ bad) where
-      pub ready-uneven : uneven ≡ true → Refused Choices ≡ firstRefusal (readyTests f state choices uneven)
+      pub ready-uneven : uneven ≡ true → Refused ChoiceCount ≡ firstRefusal (readyTests f state choices uneven)
       ready-uneven h = rw (le-ltb (length state) (64 * f .components) long, ← eb, le-ltb bad (f .components) good, h)
 
       module _ (even : uneven ≡ false) (wrong : ℕ) (ew : wrong ≡ badChoice f choices) where
-        pub ready-choice : wrong < length choices → Refused (Choice wrong) ≡ firstRefusal (readyTests f state choices uneven)
+        pub ready-choice : wrong < length choices → Refused (BadChoice wrong) ≡ firstRefusal (readyTests f state choices uneven)
         ready-choice h = rw (le-ltb (length state) (64 * f .components) long, ← eb, le-ltb bad (f .components) good, even, ← ew, lt-ltb wrong (length choices) h)
 
         pub ready-all : length choices ≤ wrong → Accepted ≡ firstRefusal (readyTests f state choices uneven)
@@ -92,10 +92,10 @@ pub record ReadyFacts (f : Netlist) (state choices : List ℕ) (uneven : Bool) :
 pub ready-facts : (f : Netlist) (state choices : List ℕ) (uneven : Bool) → firstRefusal (readyTests f state choices uneven) ≡ Accepted → ReadyFacts f state choices uneven
 unfolding badComponent badChoice
 ready-facts f state choices uneven e =
-    let s₁ = cond-accepted State (ltb (length state) (64 * f .components)) _ e in
-    let s₂ = cond-accepted (Cell (badComponent f state)) (ltb (badComponent f state) (f .components)) _ (s₁ .1) in
-    let s₃ = cond-accepted Choices uneven _ (s₂ .1) in
-    let s₄ = cond-accepted (Choice (badChoice f choices)) (ltb (badChoice f choices) (length choices)) Accepted (s₃ .1) in
+    let s₁ = cond-accepted StateShort (ltb (length state) (64 * f .components)) _ e in
+    let s₂ = cond-accepted (BadState (badComponent f state)) (ltb (badComponent f state) (f .components)) _ (s₁ .1) in
+    let s₃ = cond-accepted ChoiceCount uneven _ (s₂ .1) in
+    let s₄ = cond-accepted (BadChoice (badChoice f choices)) (ltb (badChoice f choices) (length choices)) Accepted (s₃ .1) in
     let b : badComponent f state ≡ f .components = omega (arith, ltb-false (badComponent f state) (f .components) (s₂ .0), least-le (λ k. not (goodCell (f .colours) (rowOf f k) (cell state k))) (f .components)) in
     let w : badChoice f choices ≡ length choices = omega (arith, ltb-false (badChoice f choices) (length choices) (s₄ .0), least-le (λ o. not (choiceAt f choices o)) (length choices)) in
     record { good = no-bad-component f state (ltb-false (length state) (64 * f .components) (s₁ .0)) b; even = s₃ .0; allowed = w }
@@ -104,7 +104,7 @@ even-length : (a b : ℕ) → not (eqb a b) ≡ false → a ≡ b
 even-length a b e = eqb-true a b (not-false (eqb a b) e)
 
 pub ready-step : (f : Netlist) (ends order state choices : List ℕ) → AcceptedFabric f ends order → firstRefusal (readyTests f state choices (not (eqb (length choices) (f .components)))) ≡ Accepted
-    → Steps f ends order state choices
+    → CanStep f ends order state choices
 ready-step f ends order state choices a e =
     let r = ready-facts f state choices (not (eqb (length choices) (f .components))) e in
     record { accepted = a; good = r .good; allowed = no-bad-choice f choices (even-length (length choices) (f .components) (r .even)) (r .allowed) }
@@ -124,10 +124,10 @@ module _ (file : List ℕ) (f : Netlist) {C M N : ℕ} (e : reading file ≡ Fab
   unfolding startVerdict
   judged = sym (rest-judged file e (shortState (netlistIn file) space ∷ []) ∙ ap (λ (g : Netlist). firstRefusal (shortState g space ∷ [])) same)
 
-  pub start-short : space < 64 * f .components → Refused State ≡ startVerdict file space
+  pub start-short : space < 64 * f .components → Refused StateShort ≡ startVerdict file space
   start-short h = short-met h ∙ judged
     where
-      short-met : space < 64 * f .components → Refused State ≡ firstRefusal (shortState f space ∷ [])
+      short-met : space < 64 * f .components → Refused StateShort ≡ firstRefusal (shortState f space ∷ [])
       short-met l = rw (lt-ltb space (64 * f .components) l)
 
   pub start-given : 64 * f .components ≤ space → Accepted ≡ startVerdict file space
@@ -146,7 +146,7 @@ module _ (file state choices : List ℕ) where
   unfolding stepVerdict
   step-refused space e =
       let f : Netlist = netlistIn file in
-      sym (rest-refused file (readyTests f state choices (not (eqb (length choices) (f .components))) ++ (test Space (ltb space (f .channels)) ∷ [])) e)
+      sym (rest-refused file (readyTests f state choices (not (eqb (length choices) (f .components))) ++ (test ResultSpace (ltb space (f .channels)) ∷ [])) e)
 
   module _ {C M N : ℕ} {rows ends order : List ℕ} (o : Opened file C M N rows ends order) (space : ℕ) where
     abbrev f : Netlist
@@ -157,9 +157,9 @@ module _ (file state choices : List ℕ) where
     step-judged v ev =
         ap (λ (u : Verdict). roomFor u space M) ev
         ∙ space-last (firstRefusal (readyTests f state choices (not (eqb (length choices) N)))) space M
-        ∙ sym (refusal-append (readyTests f state choices (not (eqb (length choices) N))) (test Space (ltb space M) ∷ []))
-        ∙ sym (rest-judged file (o .reads) (readyTests (netlistIn file) state choices (not (eqb (length choices) (netlistIn file .components))) ++ (test Space (ltb space (netlistIn file .channels)) ∷ []))
-        ∙ ap (λ (g : Netlist). firstRefusal (readyTests g state choices (not (eqb (length choices) (g .components))) ++ (test Space (ltb space (g .channels)) ∷ []))) (o .same))
+        ∙ sym (refusal-append (readyTests f state choices (not (eqb (length choices) N))) (test ResultSpace (ltb space M) ∷ []))
+        ∙ sym (rest-judged file (o .reads) (readyTests (netlistIn file) state choices (not (eqb (length choices) (netlistIn file .components))) ++ (test ResultSpace (ltb space (netlistIn file .channels)) ∷ []))
+        ∙ ap (λ (g : Netlist). firstRefusal (readyTests g state choices (not (eqb (length choices) (g .components))) ++ (test ResultSpace (ltb space (g .channels)) ∷ []))) (o .same))
 
   -- what is left in lent memory
   pub step-kept : (space : ℕ) {r : Refusal} → Refused r ≡ stepVerdict file state choices space → state ≡ stateAfterStep file state choices space

@@ -9,7 +9,7 @@ use Rattle.digits.specs.UpTo.{upTo}
 use Rattle.record.specs.Table.{openTable}
 use Rattle.component.specs.Netlist.{Netlist, netlist}
 use Rattle.refusals.specs.Refusals.{Test, test, firstRefusal}
-use Rattle.refusals.specs.declared.Refusal.the-variants.{State, Cell, Choices, Choice, Space}
+use Rattle.refusals.specs.declared.Refusal.the-variants.{StateShort, BadState, ChoiceCount, BadChoice, ResultSpace}
 use Rattle.refusals.specs.declared.Verdict.{Verdict}
 use Rattle.refusals.specs.declared.Verdict.the-variants.{Accepted, Refused}
 use Rattle.reader.specs.File.{headerFields, coloursIn, channelsIn, componentsIn, fileTests}
@@ -34,19 +34,19 @@ kept (Refused r) new old = old
 
 -- 21 state shorter than 64N
 abbrev pub shortState : Netlist → ℕ → Test
-shortState f space = test State (ltb space (64 * f .components))
+shortState f space = test StateShort (ltb space (64 * f .components))
 
 -- 22 state not good (lowest component)
 abbrev pub badState : Netlist → List ℕ → Test
-badState f state = test (Cell (badComponent f state)) (ltb (badComponent f state) (f .components))
+badState f state = test (BadState (badComponent f state)) (ltb (badComponent f state) (f .components))
 
 -- 9 choices not N long; in run, no multiple of N
 abbrev pub uneven : ℕ → ℕ → Test
-uneven length wanted = test Choices (not (eqb length wanted))
+uneven count wanted = test ChoiceCount (not (eqb count wanted))
 
 -- 10 a choice (lowest offset)
 abbrev pub wrongChoice : Netlist → List ℕ → Test
-wrongChoice f choices = test (Choice (badChoice f choices)) (ltb (badChoice f choices) (length choices))
+wrongChoice f choices = test (BadChoice (badChoice f choices)) (ltb (badChoice f choices) (length choices))
 
 -- ---- start 1-8, 21
 abbrev pub startTests : List ℕ → ℕ → List Test
@@ -67,7 +67,7 @@ stepTests file state choices space =
     ∷ badState f state
     ∷ uneven (length choices) (f .components)
     ∷ wrongChoice f choices
-    ∷ test Space (ltb space (f .channels))
+    ∷ test ResultSpace (ltb space (f .channels))
     ∷ [])
 
 unfoldable pub stepVerdict : List ℕ → List ℕ → List ℕ → ℕ → Verdict
@@ -106,7 +106,7 @@ stateAfterRun file state choices =
 abbrev pub checkTests : List ℕ → List ℕ → ℕ → List Test
 checkTests file p space =
     let f : Netlist = netlistIn file in
-    fileTests file ++ (judgeTests f p ++ (test Space (ltb space (8 * f .components)) ∷ []))
+    fileTests file ++ (judgeTests f p ++ (test ResultSpace (ltb space (8 * f .components)) ∷ []))
 
 unfoldable pub checkVerdict : List ℕ → List ℕ → ℕ → Verdict
 checkVerdict file p space = firstRefusal (checkTests file p space)

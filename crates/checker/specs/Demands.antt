@@ -6,7 +6,7 @@ use mathlib.Core.List.{List, [], _∷_}
 use Prim.Native.Nat.{ℕ, _*_, _≤_, _<_}
 use lib.ListN.{length}
 use Rattle.refusals.specs.Refusals.{firstRefusal}
-use Rattle.refusals.specs.declared.Refusal.the-variants.{State, Cell}
+use Rattle.refusals.specs.declared.Refusal.the-variants.{StateShort, BadState}
 use Rattle.refusals.specs.declared.Verdict.{Verdict}
 use Rattle.refusals.specs.declared.Verdict.the-variants.{Accepted, Refused}
 use Rattle.reader.specs.File.{fileTests}
@@ -68,5 +68,5 @@ AcceptedExactly = (file p : List ℕ) (space : ℕ) → firstRefusal (fileTests 
 -- after an accepted start no call of the list is refused because of the state, by 21 or 22
 abbrev pub GoodAlways : Type 0
 GoodAlways = (file state : List ℕ) → startVerdict file (length state) ≡ Accepted → (calls : List Call) (call : Call)
-    → (verdictOn file call (stateAfterAll file calls (stateAfterStart file state)) ≡ Refused State → ⊥)
-    × ((k : ℕ) → verdictOn file call (stateAfterAll file calls (stateAfterStart file state)) ≡ Refused (Cell k) → ⊥)
+    → (verdictOn file call (stateAfterAll file calls (stateAfterStart file state)) ≡ Refused StateShort → ⊥)
+    × ((k : ℕ) → verdictOn file call (stateAfterAll file calls (stateAfterStart file state)) ≡ Refused (BadState k) → ⊥)

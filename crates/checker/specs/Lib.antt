@@ -1,3 +1,3 @@
 pub mod Calls
 pub mod Demands
-pub mod Steps
+pub mod Stages

@@ -5,11 +5,11 @@ ghost use Prim.Native.Nat.{_*_, _/_, _≤_, _<_};
 ghost use lib.ListN.{length, drop};
 ghost use Rattle.component.specs.Netlist.{netlist};
 ghost use Rattle.refusals.specs.Refusals.{firstRefusal};
-ghost use Rattle.fabric.specs.Steps.{roomFor};
+ghost use Rattle.fabric.specs.Stages.{roomFor};
 ghost use Rattle.signals.specs.Signals as step;
-ghost use Rattle.state.specs.Step.{next, Steps};
+ghost use Rattle.state.specs.Step.{next, CanStep};
 ghost use Rattle.checker.specs.Calls.{startVerdict, stateAfterStart, stepVerdict, stateAfterStep, movesAfterStep, afterSteps, runVerdict, stateAfterRun, checkVerdict, checkConstant, weightsAfterCheck, bytesAfterCheck};
-ghost use Rattle.checker.specs.Steps.{readyTests, Along, Runs, orZero};
+ghost use Rattle.checker.specs.Stages.{readyTests, Along, Runs, orZero};
 use component::Size;
 use flows::Judgement;
 use reader::Reading;
@@ -28,7 +28,7 @@ pub fn start_answer(file: &[u8], space: usize) -> Verdict
             components,
         } => {
             if space < 64 * components as usize {
-                return Verdict::Refused(Refusal::State);
+                return Verdict::Refused(Refusal::StateShort);
             }
             Verdict::Accepted
         }
@@ -51,7 +51,7 @@ pub fn start(file: &[u8], state: &mut [u8]) -> Verdict
         } => {
             let n = components as usize;
             if state.len() < 64 * n {
-                return Verdict::Refused(Refusal::State);
+                return Verdict::Refused(Refusal::StateShort);
             }
             let end = 24 * n;
             let size = Size {
@@ -71,18 +71,18 @@ fn ready(table: &[u8], size: Size, state: &[u8], choices: &[u8], uneven: bool) -
     ensures { λ r. ⌜ r ≡ firstRefusal (readyTests (netlist (size .colours) (size .channels) (size .components) (now (table .entry))) (now (state .entry)) (now (choices .entry)) uneven) ⌝ }
 {
     if state.len() < 64 * size.components {
-        return Verdict::Refused(Refusal::State);
+        return Verdict::Refused(Refusal::StateShort);
     }
     let bad = good::first_bad_cell(table, size, state);
     if bad < size.components {
-        return Verdict::Refused(Refusal::Cell(bad));
+        return Verdict::Refused(Refusal::BadState(bad));
     }
     let wrong = good::first_bad_choice(table, size, choices);
     if uneven {
-        return Verdict::Refused(Refusal::Choices);
+        return Verdict::Refused(Refusal::ChoiceCount);
     }
     if wrong < choices.len() {
-        return Verdict::Refused(Refusal::Choice(wrong));
+        return Verdict::Refused(Refusal::BadChoice(wrong));
     }
     Verdict::Accepted
 }
@@ -119,7 +119,7 @@ fn take_step(
     choices: &[u8],
     moves: &mut [u8],
 )
-    requires { ⌜ Steps (netlist (size .colours) (size .channels) (size .components) (now table)) (now ends) (now order) (now state) (now choices)
+    requires { ⌜ CanStep (netlist (size .colours) (size .channels) (size .components) (now table)) (now ends) (now order) (now state) (now choices)
         × (size .channels ≤ length (now moves)) ⌝ }
     ensures { λ _. ⌜ (now (state .exit) ≡ next (netlist (size .colours) (size .channels) (size .components) (now (table .entry))) (now (state .entry)) (now (choices .entry)))
         × (now (moves .exit) ≡ step.moves (netlist (size .colours) (size .channels) (size .components) (now (table .entry))) (now (state .entry)) (now (choices .entry))

@@ -13,7 +13,7 @@ use Rattle.integers.specs.Sum.{sumTo, same}
 use Rattle.integers.proofs.Sum.{sum-only, sum-zero, same-yes, same-no}
 use Rattle.component.specs.Kind.{Kind, kindOf, source, sink, queue, function, fork, join, switch, merge, A, B, C}
 use Rattle.component.specs.Row.{kind, port, firstMap, secondMap, mask, masked}
-use Rattle.equations.specs.Equations.{Side, flow, mapped, all, none, when, less, side, hasIndex}
+use Rattle.equations.specs.Equations.{Side, flow, mappedTo, allOf, none, sideIf, less, side, hasIndex}
 use Rattle.equations.specs.Numbers.{pick, bitOf, equationOf, equationAt, isKnown, mappedFactor, allFactor, factorOf, numbered, InTable, sourceFlows, queueFlows, mappedFlows, switchFlows, mergeFlows}
 use Rattle.equations.specs.declared.Equation.{Equation}
 use Rattle.equations.specs.declared.Equation.the-variants.{Missing, One, Two, Three, Mapped, All}
@@ -56,7 +56,7 @@ module _ (c : ℕ) (h : c ≤ 8) (y : ℕ) (v : ℕ) where
       go true e = sum-only c (v % 8) (λ d. cond (p d) (same (8 * y + d) v) (pos 0)) (ltb-true (v % 8) c e) miss ∙ hit (eqb (v / 8) y) refl (p (v % 8))
       go false e = sum-zero c (λ d. cond (p d) (same (8 * y + d) v) (pos 0)) (λ j l. miss j l (λ k. omega (arith, ltb-false (v % 8) c e)))
 
-  all-number : allFactor c (8 * y) v ≡ numbered c (all y) v
+  all-number : allFactor c (8 * y) v ≡ numbered c (allOf y) v
   unfolding allFactor numbered
   all-number = flows-number (λ d. true) ∙ ap (λ (b : Bool). cond (ltb (v % 8) c) (cond b (pos 1) (pos 0)) (pos 0)) (and-true (eqb (v / 8) y))
     where
@@ -65,7 +65,7 @@ module _ (c : ℕ) (h : c ≤ 8) (y : ℕ) (v : ℕ) where
       and-true false = refl
 
   -- those that a map takes to e
-  mapped-number : (t : List ℕ) (at e : ℕ) (map : ℕ → ℕ) → ((d : ℕ) → d < 8 → getD t (at + d) 0 ≡ map d) → mappedFactor t c (8 * y) at e v ≡ numbered c (mapped y map e) v
+  mapped-number : (t : List ℕ) (at e : ℕ) (map : ℕ → ℕ) → ((d : ℕ) → d < 8 → getD t (at + d) 0 ≡ map d) → mappedFactor t c (8 * y) at e v ≡ numbered c (mappedTo y map e) v
   unfolding mappedFactor numbered
   mapped-number t at e map same-map =
       let l : v % 8 < 8 = omega arith in
@@ -88,7 +88,7 @@ none-number c v = cond-none (ltb (v % 8) c)
 -- ---- the code's equation, whether the definition has one, and its side
 pub record Agrees (t : List ℕ) (c : ℕ) (e : Equation) (b : Bool) (s : Side) : Type 0 where
   pub known : isKnown e ≡ b
-  pub factors : (v : ℕ) → factorOf t c e v ≡ numbered c (when b s) v
+  pub factors : (v : ℕ) → factorOf t c e v ≡ numbered c (sideIf b s) v
 
 module _ (t : List ℕ) (c : ℕ) (h : c ≤ 8) where
   missing : (s : Side) → Agrees t c Missing false s
@@ -132,23 +132,23 @@ module _ (t : List ℕ) (c : ℕ) (h : c ≤ 8) where
         ∙ sym (less-number c (less (flow x d) (flow y d)) (flow z d) v);
   }
 
-  mapped-agrees : (x y at e : ℕ) (map : ℕ → ℕ) → ((d : ℕ) → d < 8 → getD t (at + d) 0 ≡ map d) → e < c → Agrees t c (Mapped (8 * x + e) (8 * y) at e) true (less (flow x e) (mapped y map e))
+  mapped-agrees : (x y at e : ℕ) (map : ℕ → ℕ) → ((d : ℕ) → d < 8 → getD t (at + d) 0 ≡ map d) → e < c → Agrees t c (Mapped (8 * x + e) (8 * y) at e) true (less (flow x e) (mappedTo y map e))
   unfolding factorOf
   mapped-agrees x y at e map k l = record {
     known = refl;
     factors = λ v. ap (λ (z : ℤ). z -ℤ mappedFactor t c (8 * y) at e v) (flow-number c h x v e l) ∙ ap (λ (z : ℤ). numbered c (flow x e) v -ℤ z) (mapped-number c h y v t at e map k)
-        ∙ sym (less-number c (flow x e) (mapped y map e) v);
+        ∙ sym (less-number c (flow x e) (mappedTo y map e) v);
   }
 
-  all-agrees : (x y : ℕ) → Agrees t c (All (8 * x) (8 * y)) true (less (all x) (all y))
+  all-agrees : (x y : ℕ) → Agrees t c (All (8 * x) (8 * y)) true (less (allOf x) (allOf y))
   unfolding factorOf
   all-agrees x y = record {
     known = refl;
-    factors = λ v. ap (λ (z : ℤ). z -ℤ allFactor c (8 * y) v) (all-number c h x v) ∙ ap (λ (z : ℤ). numbered c (all x) v -ℤ z) (all-number c h y v)
-        ∙ sym (less-number c (all x) (all y) v);
+    factors = λ v. ap (λ (z : ℤ). z -ℤ allFactor c (8 * y) v) (all-number c h x v) ∙ ap (λ (z : ℤ). numbered c (allOf x) v -ℤ z) (all-number c h y v)
+        ∙ sym (less-number c (allOf x) (allOf y) v);
   }
 
-  sent : (goes : Bool) (x y d : ℕ) → d < c → Agrees t c (pick goes (Two (8 * x + d) (8 * y + d)) (One (8 * x + d))) true (less (flow x d) (when goes (flow y d)))
+  sent : (goes : Bool) (x y d : ℕ) → d < c → Agrees t c (pick goes (Two (8 * x + d) (8 * y + d)) (One (8 * x + d))) true (less (flow x d) (sideIf goes (flow y d)))
   unfolding factorOf
   sent true x y d l = two x y d l
   sent false x y d l = record {

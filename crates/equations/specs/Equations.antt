@@ -18,21 +18,21 @@ abbrev pub flow : ℕ → ℕ → Side
 flow y e x d = cond (eqb x y && eqb d e) (pos 1) (pos 0)
 
 -- sum of L(y,d) mapped to e
-abbrev pub mapped : ℕ → (ℕ → ℕ) → ℕ → Side
-mapped y map e x d = cond (eqb x y && eqb (map d) e) (pos 1) (pos 0)
+abbrev pub mappedTo : ℕ → (ℕ → ℕ) → ℕ → Side
+mappedTo y map e x d = cond (eqb x y && eqb (map d) e) (pos 1) (pos 0)
 
 -- all of L(y)
-abbrev pub all : ℕ → Side
-all y x d = cond (eqb x y) (pos 1) (pos 0)
+abbrev pub allOf : ℕ → Side
+allOf y x d = cond (eqb x y) (pos 1) (pos 0)
 
 -- nothing
 abbrev pub none : Side
 none x d = pos 0
 
 -- a if the test holds
-abbrev pub when : Bool → Side → Side
-when true a = a
-when false a = none
+abbrev pub sideIf : Bool → Side → Side
+sideIf true a = a
+sideIf false a = none
 
 -- a - b
 abbrev pub less : Side → Side → Side
@@ -47,12 +47,12 @@ unfoldable pub side : Kind → List ℕ → ℕ → Side
 side source r d = flow (port r A) d
 side sink r i = none
 side queue r d = less (flow (port r B) d) (flow (port r A) d)
-side function r e = less (flow (port r B) e) (mapped (port r A) (firstMap r) e)
+side function r e = less (flow (port r B) e) (mappedTo (port r A) (firstMap r) e)
 side fork r i =
-    byHalf (λ e. less (flow (port r B) e) (mapped (port r A) (firstMap r) e)) (λ e. less (flow (port r C) e) (mapped (port r A) (secondMap r) e)) i
-side join r i = cond (eqb i 8) (less (all (port r A)) (all (port r B))) (less (flow (port r C) i) (mapped (port r A) (firstMap r) i))
+    byHalf (λ e. less (flow (port r B) e) (mappedTo (port r A) (firstMap r) e)) (λ e. less (flow (port r C) e) (mappedTo (port r A) (secondMap r) e)) i
+side join r i = cond (eqb i 8) (less (allOf (port r A)) (allOf (port r B))) (less (flow (port r C) i) (mappedTo (port r A) (firstMap r) i))
 side switch r i =
-    byHalf (λ d. less (flow (port r B) d) (when (masked r d) (flow (port r A) d))) (λ d. less (flow (port r C) d) (when (not (masked r d)) (flow (port r A) d))) i
+    byHalf (λ d. less (flow (port r B) d) (sideIf (masked r d) (flow (port r A) d))) (λ d. less (flow (port r C) d) (sideIf (not (masked r d)) (flow (port r A) d))) i
 side merge r d = less (less (flow (port r C) d) (flow (port r A) d)) (flow (port r B) d)
 
 -- |index| (e, d below C). No other index exists; sinks have none.
@@ -72,4 +72,4 @@ hasEquation f k i = ltb k (f .components) && hasIndex (kind (rowOf f k)) (rowOf 
 
 -- the factor of L(x,d) in the equation of component k and index i
 unfoldable pub factor : Netlist → ℕ → ℕ → Side
-factor f k i = when (hasEquation f k i) (side (kind (rowOf f k)) (rowOf f k) i)
+factor f k i = sideIf (hasEquation f k i) (side (kind (rowOf f k)) (rowOf f k) i)

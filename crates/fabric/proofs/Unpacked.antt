@@ -14,9 +14,9 @@ use Rattle.refusals.specs.Refusals.{test, firstRefusal}
 use Rattle.reader.specs.File.{headerFields, coloursIn, channelsIn, componentsIn, fileTests}
 use Rattle.reader.specs.Reading.{readAs, reading}
 use Rattle.fabric.specs.Calls.{unpacked, tableAfter, unpackedTable, recordStart, recordLength}
-use Rattle.fabric.specs.Steps.{roomFor, withRoom}
+use Rattle.fabric.specs.Stages.{roomFor, withRoom}
 use Rattle.refusals.specs.declared.Refusal.{Refusal}
-use Rattle.refusals.specs.declared.Refusal.the-variants.{Space}
+use Rattle.refusals.specs.declared.Refusal.the-variants.{ResultSpace}
 use Rattle.refusals.specs.declared.Verdict.{Verdict}
 use Rattle.refusals.specs.declared.Verdict.the-variants.{Accepted, Refused}
 use Rattle.reader.specs.declared.Reading.{Reading}
@@ -25,17 +25,17 @@ use Rattle.refusals.proofs.Refusals.{andThen, refusal-append, cond-accepted, th
 use Rattle.reader.proofs.Accepted.{accepted-parts}
 use Rattle.reader.proofs.Facts.{read-fabric, read-rejected}
 
-pub space-last : (v : Verdict) (space need : ℕ) → roomFor v space need ≡ andThen v (firstRefusal (test Space (ltb space need) ∷ []))
+pub space-last : (v : Verdict) (space need : ℕ) → roomFor v space need ≡ andThen v (firstRefusal (test ResultSpace (ltb space need) ∷ []))
 space-last Accepted space need = refl
 space-last (Refused r) space need = refl
 
 module _ (file : List ℕ) where
   unpacked-is : (space : ℕ) → unpacked file space
-      ≡ readAs (andThen (firstRefusal (fileTests file)) (firstRefusal (test Space (ltb space (24 * componentsIn (headerFields file))) ∷ []))) (coloursIn (headerFields file)) (channelsIn (headerFields file)) (componentsIn (headerFields file))
+      ≡ readAs (andThen (firstRefusal (fileTests file)) (firstRefusal (test ResultSpace (ltb space (24 * componentsIn (headerFields file))) ∷ []))) (coloursIn (headerFields file)) (channelsIn (headerFields file)) (componentsIn (headerFields file))
   unfolding unpacked
   unpacked-is space =
       ap (λ (v : Verdict). readAs v (coloursIn (headerFields file)) (channelsIn (headerFields file)) (componentsIn (headerFields file)))
-      (refusal-append (fileTests file) (test Space (ltb space (24 * componentsIn (headerFields file))) ∷ []))
+      (refusal-append (fileTests file) (test ResultSpace (ltb space (24 * componentsIn (headerFields file))) ∷ []))
 
   pub unpacked-rejected : (space : ℕ) (r : Refusal) → reading file ≡ Rejected r → Rejected r ≡ unpacked file space
   unfolding reading
@@ -50,8 +50,8 @@ module _ (file : List ℕ) where
   with-room space (Rejected q) e = unpacked-rejected space q e
   with-room space (Fabric C M N) e = go (ltb space (24 * N)) refl
     where
-      go : (b : Bool) → ltb space (24 * N) ≡ b → cond (ltb space (24 * N)) (Rejected Space) (Fabric C M N) ≡ unpacked file space
-      go true l = rw l (unpacked-fabric e space (Refused Space) (rw l))
+      go : (b : Bool) → ltb space (24 * N) ≡ b → cond (ltb space (24 * N)) (Rejected ResultSpace) (Fabric C M N) ≡ unpacked file space
+      go true l = rw l (unpacked-fabric e space (Refused ResultSpace) (rw l))
       go false l = rw l (unpacked-fabric e space Accepted (rw l))
 
   pub unpack-is : (space : ℕ) (a r : Reading) → a ≡ reading file → r ≡ withRoom a space → r ≡ unpacked file space
@@ -61,9 +61,9 @@ module _ (file : List ℕ) where
   pub unpacked-accepted : (space : ℕ) {C M N : ℕ} → unpacked file space ≡ Fabric C M N → (reading file ≡ Fabric C M N) × (24 * N ≤ space)
   unfolding reading
   unpacked-accepted space {C} {M} {N} e =
-      let q = read-fabric (andThen (firstRefusal (fileTests file)) (firstRefusal (test Space (ltb space (24 * componentsIn (headerFields file))) ∷ []))) _ _ _ (sym (unpacked-is space) ∙ e) in
+      let q = read-fabric (andThen (firstRefusal (fileTests file)) (firstRefusal (test ResultSpace (ltb space (24 * componentsIn (headerFields file))) ∷ []))) _ _ _ (sym (unpacked-is space) ∙ e) in
       let s = then-accepted (firstRefusal (fileTests file)) _ (q .0) in
-      let r = cond-accepted Space (ltb space (24 * componentsIn (headerFields file))) Accepted (s .1) in
+      let r = cond-accepted ResultSpace (ltb space (24 * componentsIn (headerFields file))) Accepted (s .1) in
       let n : componentsIn (headerFields file) ≡ N = q .3 in
       (rw (s .0, q .1, q .2, q .3), omega (arith, ltb-false space (24 * componentsIn (headerFields file)) (r .0)))
 

@@ -11,14 +11,14 @@ use Rattle.digits.proofs.Least.{least-before}
 use Rattle.record.specs.Table.{row}
 use Rattle.component.specs.Row.{rowOk}
 use Rattle.component.proofs.Facts.{row-parts, kind-le}
-use Rattle.wiring.specs.Steps.{Kinds, Wiring}
+use Rattle.wiring.specs.Stages.{Kinds, Wiring}
 use Rattle.wiring.specs.declared.Wired.{Wired}
 use Rattle.refusals.specs.Refusals.{Test, test, firstRefusal}
 use Rattle.reader.specs.File.{badRow, firstBadRow, wireTests}
 use Rattle.fabric.specs.Calls.{packed, fileAfter, packedInto}
-use Rattle.fabric.specs.Steps.{roomFor, tableVerdict}
-use Rattle.reader.specs.Steps.{wiredVerdict}
-use Rattle.refusals.specs.declared.Refusal.the-variants.{Length, Range, Field, Space}
+use Rattle.fabric.specs.Stages.{roomFor, tableVerdict}
+use Rattle.reader.specs.Stages.{wiredVerdict}
+use Rattle.refusals.specs.declared.Refusal.the-variants.{WrongLength, CountRange, BadField, ResultSpace}
 use Rattle.refusals.specs.declared.Verdict.{Verdict}
 use Rattle.refusals.specs.declared.Verdict.the-variants.{Accepted, Refused}
 use Rattle.refusals.proofs.Refusals.{andThen, refusal-append, cond-accepted, then-accepted}
@@ -35,7 +35,7 @@ module _ (colours channels n : ℕ) (table : List ℕ) where
   row-kinds few l h = record { long = omega arith; few = few; kinds = λ k b. kind-le (row-parts colours channels (row table k) (good-rows h k b)) }
 
   module _ (bad : ℕ) (eb : bad ≡ firstBadRow colours channels table n) where
-    pub is-field : bad < n → Refused (Field bad) ≡ tableVerdict colours channels table n
+    pub is-field : bad < n → Refused (BadField bad) ≡ tableVerdict colours channels table n
     unfolding tableVerdict
     is-field h = rw (← eb, lt-ltb bad n h)
 
@@ -77,12 +77,12 @@ inside c m n e =
     }
 
 module _ (colours channels : ℕ) (table : List ℕ) (space : ℕ) where
-  pub is-uneven : (length table % 24 ≡ 0 → ⊥) → Refused Length ≡ packed colours channels table space
+  pub is-uneven : (length table % 24 ≡ 0 → ⊥) → Refused WrongLength ≡ packed colours channels table space
   unfolding packed
   is-uneven h = rw (ne-eqb (length table % 24) 0 h)
 
   module _ (even : length table % 24 ≡ 0) where
-    pub is-outside : outside colours channels (length table / 24) ≡ true → Refused Range ≡ packed colours channels table space
+    pub is-outside : outside colours channels (length table / 24) ≡ true → Refused CountRange ≡ packed colours channels table space
     unfolding packed
     is-outside h = rw (eq-eqb (length table % 24) 0 even, h)
 
@@ -91,8 +91,8 @@ module _ (colours channels : ℕ) (table : List ℕ) (space : ℕ) where
     unfolding packed tableVerdict
     is-judged h v r ev er =
         let n : ℕ = length table / 24 in
-        let last : List Test = test Space (ltb space (4 + 13 * n)) ∷ [] in
-        let rest : List Test = test (Field (firstBadRow colours channels table n)) (ltb (firstBadRow colours channels table n) n) ∷ wireTests table n channels in
+        let last : List Test = test ResultSpace (ltb space (4 + 13 * n)) ∷ [] in
+        let rest : List Test = test (BadField (firstBadRow colours channels table n)) (ltb (firstBadRow colours channels table n) n) ∷ wireTests table n channels in
         let passed : firstRefusal (rest ++ last) ≡ packed colours channels table space = rw (eq-eqb (length table % 24) 0 even, h) in
         er ∙ space-last v space (4 + 13 * n) ∙ ap (λ (x : Verdict). andThen x (firstRefusal last)) ev ∙ sym (refusal-append rest last) ∙ passed
 
@@ -107,12 +107,12 @@ module _ (colours channels : ℕ) (table : List ℕ) (space : ℕ) where
   unfolding packed tableVerdict
   pack-accepted e =
       let n : ℕ = length table / 24 in
-      let last : List Test = test Space (ltb space (4 + 13 * n)) ∷ [] in
-      let rest : List Test = test (Field (firstBadRow colours channels table n)) (ltb (firstBadRow colours channels table n) n) ∷ wireTests table n channels in
-      let s₁ = cond-accepted Length (not (eqb (length table % 24) 0)) _ e in
-      let s₂ = cond-accepted Range (outside colours channels n) (firstRefusal (rest ++ last)) (s₁ .1) in
+      let last : List Test = test ResultSpace (ltb space (4 + 13 * n)) ∷ [] in
+      let rest : List Test = test (BadField (firstBadRow colours channels table n)) (ltb (firstBadRow colours channels table n) n) ∷ wireTests table n channels in
+      let s₁ = cond-accepted WrongLength (not (eqb (length table % 24) 0)) _ e in
+      let s₂ = cond-accepted CountRange (outside colours channels n) (firstRefusal (rest ++ last)) (s₁ .1) in
       let s₃ = then-accepted (firstRefusal rest) (firstRefusal last) (sym (refusal-append rest last) ∙ s₂ .1) in
-      let s₄ = cond-accepted Space (ltb space (4 + 13 * n)) Accepted (s₃ .1) in
+      let s₄ = cond-accepted ResultSpace (ltb space (4 + 13 * n)) Accepted (s₃ .1) in
       record {
         even = eqb-true (length table % 24) 0 (not-false _ (s₁ .0));
         inside = inside colours channels n (s₂ .0);

@@ -9,7 +9,7 @@ use Rattle.fabric.specs.PackedFile.{packedFile}
 use Rattle.record.specs.Table.{openTable}
 use Rattle.refusals.specs.Refusals.{Test, test, firstRefusal}
 use Rattle.reader.specs.File.{headerFields, coloursIn, componentsIn, channelsIn, firstBadRow, wireTests, fileTests}
-use Rattle.refusals.specs.declared.Refusal.the-variants.{Range, Length, Field, Space}
+use Rattle.refusals.specs.declared.Refusal.the-variants.{CountRange, WrongLength, BadField, ResultSpace}
 use Rattle.refusals.specs.declared.Verdict.{Verdict}
 use Rattle.refusals.specs.declared.Verdict.the-variants.{Accepted, Refused}
 use Rattle.reader.specs.declared.Reading.{Reading}
@@ -17,7 +17,7 @@ use Rattle.reader.specs.declared.Reading.the-variants.{Fabric, Rejected}
 
 -- ---- unpack 1-8, 23
 abbrev pub unpackTests : List ℕ → ℕ → List Test
-unpackTests file space = fileTests file ++ (test Space (ltb space (24 * componentsIn (headerFields file))) ∷ [])
+unpackTests file space = fileTests file ++ (test ResultSpace (ltb space (24 * componentsIn (headerFields file))) ∷ [])
 
 unfoldable pub unpacked : List ℕ → ℕ → Reading
 unpacked file space = let h : List ℕ = headerFields file in readAs (firstRefusal (unpackTests file space)) (coloursIn h) (channelsIn h) (componentsIn h)
@@ -34,13 +34,13 @@ unpackedTable file table = tableAfter (unpacked file (length table)) file table
 -- 4 in pack, first of all, not a multiple of 24. 3 N, M or (pack) C outside its range.
 abbrev pub rowTests : ℕ → ℕ → List ℕ → ℕ → List Test
 rowTests colours channels table n =
-    test Length (not (eqb (length table % 24) 0))
-    ∷ test Range (eqb n 0 || ltb 128 n || eqb channels 0 || ltb 255 channels || eqb colours 0 || ltb 8 colours)
-    ∷ test (Field (firstBadRow colours channels table n)) (ltb (firstBadRow colours channels table n) n)
+    test WrongLength (not (eqb (length table % 24) 0))
+    ∷ test CountRange (eqb n 0 || ltb 128 n || eqb channels 0 || ltb 255 channels || eqb colours 0 || ltb 8 colours)
+    ∷ test (BadField (firstBadRow colours channels table n)) (ltb (firstBadRow colours channels table n) n)
     ∷ wireTests table n channels
 
 abbrev pub packTests : ℕ → ℕ → List ℕ → ℕ → List Test
-packTests colours channels table space = rowTests colours channels table (length table / 24) ++ (test Space (ltb space (4 + 13 * (length table / 24))) ∷ [])
+packTests colours channels table space = rowTests colours channels table (length table / 24) ++ (test ResultSpace (ltb space (4 + 13 * (length table / 24))) ∷ [])
 
 unfoldable pub packed : ℕ → ℕ → List ℕ → ℕ → Verdict
 packed colours channels table space = firstRefusal (packTests colours channels table space)

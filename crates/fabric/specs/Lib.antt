@@ -1,3 +1,3 @@
 pub mod PackedFile
 pub mod Calls
-pub mod Steps
+pub mod Stages

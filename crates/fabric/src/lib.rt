@@ -5,7 +5,7 @@ ghost use mathlib.Core.List.{_++_};
 ghost use lib.ListN.{length, take, drop};
 ghost use Rattle.fabric.specs.PackedFile.{headerBytes, packedFile};
 ghost use Rattle.fabric.specs.Calls.{unpacked, unpackedTable, packed, packedInto, recordStart, recordLength};
-ghost use Rattle.fabric.specs.Steps.{roomFor, withRoom, tableVerdict};
+ghost use Rattle.fabric.specs.Stages.{roomFor, withRoom, tableVerdict};
 use reader::Reading;
 use refusals::Refusal;
 use refusals::Verdict;
@@ -17,7 +17,7 @@ pub fn room_for(v: Verdict, space: usize, need: usize) -> Verdict
     match v {
         Verdict::Accepted => {
             if space < need {
-                return Verdict::Refused(Refusal::Space);
+                return Verdict::Refused(Refusal::ResultSpace);
             }
             Verdict::Accepted
         }
@@ -37,7 +37,7 @@ fn with_room(found: Reading, space: usize) -> Reading
             components,
         } => {
             if space < 24 * components as usize {
-                return Reading::Rejected(Refusal::Space);
+                return Reading::Rejected(Refusal::ResultSpace);
             }
             Reading::Fabric {
                 colours,
@@ -145,7 +145,7 @@ fn table_verdict(table: &[u8], n: usize, colours: u8, channels: u8) -> Verdict
 {
     let bad = reader::first_bad_row(table, n, colours, channels);
     if bad < n {
-        return Verdict::Refused(Refusal::Field(bad));
+        return Verdict::Refused(Refusal::BadField(bad));
     }
     let mut ends = [0u16; 513];
     let mut order = [0u16; 510];
@@ -159,10 +159,10 @@ pub fn pack_answer(colours: u64, channels: u64, table: &[u8], space: usize) -> V
 {
     let n = table.len() / 24;
     if table.len() % 24 != 0 {
-        return Verdict::Refused(Refusal::Length);
+        return Verdict::Refused(Refusal::WrongLength);
     }
     if (n == 0) | (128 < n) | (channels == 0) | (255 < channels) | (colours == 0) | (8 < colours) {
-        return Verdict::Refused(Refusal::Range);
+        return Verdict::Refused(Refusal::CountRange);
     }
     room_for(
         table_verdict(table, n, colours as u8, channels as u8),

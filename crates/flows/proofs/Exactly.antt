@@ -14,7 +14,7 @@ use Rattle.digits.specs.Least.{least}
 use Rattle.digits.proofs.Least.{least-none, least-before, least-true, least-le}
 use Rattle.component.specs.Netlist.{Netlist}
 use Rattle.refusals.proofs.Refusals.{cond-accepted}
-use Rattle.refusals.specs.declared.Refusal.the-variants.{Terms, Term, Flow, Weightless}
+use Rattle.refusals.specs.declared.Refusal.the-variants.{ProposalLength, NoEquation, FlowLeft, NoWeight}
 use Rattle.refusals.specs.declared.Verdict.the-variants.{Accepted}
 use Rattle.flows.specs.Terms.{terms}
 use Rattle.flows.specs.Flows.{flowSum, Cancels, weight, entry}
@@ -87,10 +87,10 @@ module _ (f : Netlist) (p : List ℕ) where
   parts : judged f p ≡ Accepted → (badLength p ≡ false) × (ltb (firstBadTerm f p) (terms p) ≡ false) × (ltb (lowestLeft f p) (8 * f .channels) ≡ false) × (weightless f p ≡ false)
   unfolding judged
   parts e =
-      let a = cond-accepted Terms (badLength p) _ e in
-      let b = cond-accepted (Term (firstBadTerm f p)) (ltb (firstBadTerm f p) (terms p)) _ (a .1) in
-      let c = cond-accepted (Flow (lowestLeft f p)) (ltb (lowestLeft f p) (8 * f .channels)) _ (b .1) in
-      let d = cond-accepted Weightless (weightless f p) Accepted (c .1) in
+      let a = cond-accepted ProposalLength (badLength p) _ e in
+      let b = cond-accepted (NoEquation (firstBadTerm f p)) (ltb (firstBadTerm f p) (terms p)) _ (a .1) in
+      let c = cond-accepted (FlowLeft (lowestLeft f p)) (ltb (lowestLeft f p) (8 * f .channels)) _ (b .1) in
+      let d = cond-accepted NoWeight (weightless f p) Accepted (c .1) in
       (a .0, b .0, c .0, d .0)
 
   pub accepted-formed : judged f p ≡ Accepted → WellFormed f p

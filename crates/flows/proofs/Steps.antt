@@ -14,7 +14,7 @@ use Rattle.integers.proofs.Lines.{by-lines-2}
 use Rattle.component.specs.Kind.{isQueue}
 use Rattle.component.specs.Row.{kind}
 use Rattle.component.specs.Netlist.{Netlist, rowOf}
-use Rattle.equations.specs.Equations.{when, hasEquation, side, factor}
+use Rattle.equations.specs.Equations.{sideIf, hasEquation, side, factor}
 use Rattle.flows.specs.Terms.{terms, component, index, multiplier}
 use Rattle.flows.specs.Flows.{flowSum, Cancels, weight, acceptedSum}
 use Rattle.flows.specs.Verdict.{ReadFabric}
@@ -109,7 +109,7 @@ module _ (f : Netlist) (h : ReadFabric f) (p : List ℕ) (moved : ℕ → ℕ �
     flow-none k i e =
         sum-zero (f .channels) (λ x. sumTo (f .colours) (λ d. factor f k i x d *ℤ moved x d))
         (λ x l. sum-zero (f .colours) (λ d. factor f k i x d *ℤ moved x d)
-        (λ d m. ap (λ (b : Bool). when b (side (kind (rowOf f k)) (rowOf f k) i) x d *ℤ moved x d) e ∙ zero-*ℤ (moved x d)))
+        (λ d m. ap (λ (b : Bool). sideIf b (side (kind (rowOf f k)) (rowOf f k) i) x d *ℤ moved x d) e ∙ zero-*ℤ (moved x d)))
 
     kept : (k i : ℕ) → flowChange f k i moved +ℤ count-side k i ≡ pos 0
     kept k i = go (hasEquation f k i) refl (isQueue (kind (rowOf f k))) refl

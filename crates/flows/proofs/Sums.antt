@@ -20,7 +20,7 @@ use Rattle.record.proofs.Table.{row-at}
 use Rattle.component.specs.Kind.{Kind, kindOf, source, sink, queue, function, fork, join, switch, merge, isQueue, A, B, C}
 use Rattle.component.specs.Row.{kind, filling, fillColour}
 use Rattle.component.specs.Netlist.{Netlist, rowOf}
-use Rattle.equations.specs.Equations.{when, side, hasIndex, hasEquation, factor}
+use Rattle.equations.specs.Equations.{sideIf, side, hasIndex, hasEquation, factor}
 use Rattle.equations.specs.Numbers.{equationAt, isKnown, factorOf, numbered, InTable}
 use Rattle.equations.proofs.Agree.{Agrees, equation-agrees, equation-within}
 use Rattle.flows.specs.Terms.{terms, component, index, multiplier}
@@ -98,14 +98,14 @@ module _ (f : Netlist) (h : ReadFabric f) (q i : ℕ) where
 
   factor-is : hasIndex (kind (rowOf f q)) (rowOf f q) (f .colours) i ≡ hasEquation f q i → (v : ℕ) → factorOf (f .table) (f .colours) (equationAt (f .table) (24 * q) (f .colours) i) v ≡ numbered (f .colours) (factor f q i) v
   unfolding factor
-  factor-is e v = agrees .factors v ∙ ap (λ (b : Bool). numbered (f .colours) (when b (side (kind (rowOf f q)) (rowOf f q) i)) v) e
+  factor-is e v = agrees .factors v ∙ ap (λ (b : Bool). numbered (f .colours) (sideIf b (side (kind (rowOf f q)) (rowOf f q) i)) v) e
 
   pub factor-in : q < f .components → (v : ℕ) → factorOf (f .table) (f .colours) (equationAt (f .table) (24 * q) (f .colours) i) v ≡ numbered (f .colours) (factor f q i) v
   factor-in l = factor-is (sym (agrees .known) ∙ known-in l)
 
   pub factor-out : hasEquation f q i ≡ false → (v : ℕ) → numbered (f .colours) (factor f q i) v ≡ pos 0
   unfolding factor numbered
-  factor-out e v = ap (λ (b : Bool). cond (ltb (v % 8) (f .colours)) (when b (side (kind (rowOf f q)) (rowOf f q) i) (v / 8) (v % 8)) (pos 0)) e ∙ cond-none (ltb (v % 8) (f .colours))
+  factor-out e v = ap (λ (b : Bool). cond (ltb (v % 8) (f .colours)) (sideIf b (side (kind (rowOf f q)) (rowOf f q) i) (v / 8) (v % 8)) (pos 0)) e ∙ cond-none (ltb (v % 8) (f .colours))
     where
       cond-none : (b : Bool) → cond b (pos 0) (pos 0) ≡ pos 0
       cond-none true = refl

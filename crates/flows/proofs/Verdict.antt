@@ -16,7 +16,7 @@ use Rattle.component.specs.Kind.{isQueue}
 use Rattle.component.specs.Row.{kind, filling, fillColour}
 use Rattle.component.specs.Netlist.{Netlist, rowOf}
 use Rattle.refusals.specs.declared.Refusal.{Refusal}
-use Rattle.refusals.specs.declared.Refusal.the-variants.{Terms, Term, Flow, Weightless}
+use Rattle.refusals.specs.declared.Refusal.the-variants.{ProposalLength, NoEquation, FlowLeft, NoWeight}
 use Rattle.refusals.specs.declared.Verdict.{Verdict}
 use Rattle.refusals.specs.declared.Verdict.the-variants.{Accepted, Refused}
 use Rattle.flows.specs.Terms.{terms}
@@ -94,30 +94,30 @@ all-gathered f p e l a = a (omega (arith, least-le (badTerm f p) (terms p)))
 -- ---- the ways through
 module _ (f : Netlist) (p : List ℕ) where
   -- 11
-  pub judged-odd : (length p % 4 ≡ 0 → ⊥) → Refused Terms ≡ judged f p
+  pub judged-odd : (length p % 4 ≡ 0 → ⊥) → Refused ProposalLength ≡ judged f p
   unfolding judged
   judged-odd n = simp (ne-eqb (length p % 4) 0 n)
 
   module _ (even : length p % 4 ≡ 0) where
-    pub judged-long : 16384 < length p → Refused Terms ≡ judged f p
+    pub judged-long : 16384 < length p → Refused ProposalLength ≡ judged f p
     unfolding judged
     judged-long l = simp (eq-eqb (length p % 4) 0 even, lt-ltb 16384 (length p) l)
 
     module _ (short : length p ≤ 16384) where
       -- 12
-      pub judged-term : {k : ℕ} → k ≡ firstBadTerm f p → k < terms p → Refused (Term k) ≡ judged f p
+      pub judged-term : {k : ℕ} → k ≡ firstBadTerm f p → k < terms p → Refused (NoEquation k) ≡ judged f p
       unfolding judged
       judged-term {k} e l = simp (eq-eqb (length p % 4) 0 even, le-ltb 16384 (length p) short, ← e, lt-ltb k (length p / 4) l)
 
       module _ (known : terms p ≤ firstBadTerm f p) where
         -- 13
-        pub judged-flow : {v : ℕ} → v ≡ lowestLeft f p → v < 8 * f .channels → Refused (Flow v) ≡ judged f p
+        pub judged-flow : {v : ℕ} → v ≡ lowestLeft f p → v < 8 * f .channels → Refused (FlowLeft v) ≡ judged f p
         unfolding judged
         judged-flow {v} e l = simp (eq-eqb (length p % 4) 0 even, le-ltb 16384 (length p) short, le-ltb (firstBadTerm f p) (length p / 4) known, ← e, lt-ltb v (8 * f .channels) l)
 
         module _ (cancel : 8 * f .channels ≤ lowestLeft f p) where
           -- 14
-          pub judged-weightless : least (isWeight f p) (8 * f .components) ≡ 8 * f .components → Refused Weightless ≡ judged f p
+          pub judged-weightless : least (isWeight f p) (8 * f .components) ≡ 8 * f .components → Refused NoWeight ≡ judged f p
           unfolding judged
           judged-weightless e =
               simp (eq-eqb (length p % 4) 0 even, le-ltb 16384 (length p) short, le-ltb (firstBadTerm f p) (length p / 4) known, le-ltb (lowestLeft f p) (8 * f .channels) cancel, eq-eqb (least (isWeight f p) (8 * f .components)) (8 * f .components) e)

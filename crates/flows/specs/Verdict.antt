@@ -14,7 +14,7 @@ use Rattle.digits.specs.UpTo.{upTo}
 use Rattle.component.specs.Facts.{RowFacts}
 use Rattle.component.specs.Netlist.{Netlist, rowOf}
 use Rattle.refusals.specs.Refusals.{Test, test, firstRefusal}
-use Rattle.refusals.specs.declared.Refusal.the-variants.{Terms, Term, Flow, Weightless}
+use Rattle.refusals.specs.declared.Refusal.the-variants.{ProposalLength, NoEquation, FlowLeft, NoWeight}
 use Rattle.refusals.specs.declared.Verdict.{Verdict}
 use Rattle.refusals.specs.declared.Verdict.the-variants.{Accepted, Refused}
 use Rattle.equations.specs.Equations.{hasEquation}
@@ -49,10 +49,10 @@ weightless f p = eqb (least (isWeight f p) (8 * f .components)) (8 * f .componen
 -- check 1-8, 11-14, 23: the tests 11 to 14
 abbrev pub judgeTests : Netlist → List ℕ → List Test
 judgeTests f p =
-    test Terms (badLength p)
-    ∷ test (Term (firstBadTerm f p)) (ltb (firstBadTerm f p) (terms p))
-    ∷ test (Flow (lowestLeft f p)) (ltb (lowestLeft f p) (8 * f .channels))
-    ∷ test Weightless (weightless f p)
+    test ProposalLength (badLength p)
+    ∷ test (NoEquation (firstBadTerm f p)) (ltb (firstBadTerm f p) (terms p))
+    ∷ test (FlowLeft (lowestLeft f p)) (ltb (lowestLeft f p) (8 * f .channels))
+    ∷ test NoWeight (weightless f p)
     ∷ []
 
 unfoldable pub judged : Netlist → List ℕ → Verdict

@@ -391,28 +391,28 @@ pub fn judge(table: &[u8], size: Size, proposal: &[u8], weights: &mut [i64]) -> 
 {
     let len = proposal.len();
     if len % 4 != 0 {
-        return refused(Refusal::Terms);
+        return refused(Refusal::ProposalLength);
     }
     if 16384 < len {
-        return refused(Refusal::Terms);
+        return refused(Refusal::ProposalLength);
     }
     let mut known = [false; 2048];
     find_known(&mut known, table, size);
     let mut g = [0i64; 2048];
     let bad = gather(&mut g, &known, table, size, proposal);
     if bad < len / 4 {
-        return refused(Refusal::Term(bad));
+        return refused(Refusal::NoEquation(bad));
     }
     let mut s = [0i64; 2040];
     let mut w = [0i64; 1024];
     add_terms(&mut s, &mut w, &g, table, size);
     let left = lowest(&s, 8 * size.channels);
     if left < 8 * size.channels {
-        return refused(Refusal::Flow(left));
+        return refused(Refusal::FlowLeft(left));
     }
     let some = lowest(&w, 8 * size.components);
     if some == 8 * size.components {
-        return refused(Refusal::Weightless);
+        return refused(Refusal::NoWeight);
     }
     write_entries(weights, &w, 8 * size.components);
     let k = constant_of(&w, table, size);

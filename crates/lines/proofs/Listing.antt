@@ -14,14 +14,14 @@ use mir.ValLaws.{toZ-ofZ}
 use Rattle.integers.specs.Sum.{isZero}
 use Rattle.integers.proofs.Sum.{is-zero}
 use Rattle.lines.specs.Decimal.{integer}
-use Rattle.lines.specs.Listing.{field, weightLine, weightLines}
+use Rattle.lines.specs.Listing.{textField, weightLine, weightLines}
 use Rattle.lines.specs.Put.{Put}
 use Rattle.lines.proofs.Put.{put-then, put-few}
 use Rattle.lines.proofs.Decimal.{decimal-short, decimal-few}
 
 -- ---- one line
 abbrev shown : ℕ → ℤ → List ℕ
-shown u w = 81 ∷ [] ++ field (pos (u / 8)) ++ field (pos (u % 8)) ++ field w ++ 10 ∷ []
+shown u w = 81 ∷ [] ++ textField (pos (u / 8)) ++ textField (pos (u % 8)) ++ textField w ++ 10 ∷ []
 
 pub line-none : (u : ℕ) (w : ℤ) → w ≡ pos 0 → weightLine u w ≡ []
 unfolding weightLine

@@ -11,7 +11,7 @@ use mir.Syntax.{w64}
 use mir.Val.{Fits, SFits, toZ, ofZ}
 use mir.ValLaws.{toZ-ofZ}
 use Rattle.lines.specs.Decimal.{decimal}
-use Rattle.lines.specs.Listing.{field}
+use Rattle.lines.specs.Listing.{textField}
 use Rattle.lines.specs.Put.{Put}
 use Rattle.integers.proofs.Twos.{down-low, down-bits}
 
@@ -36,23 +36,23 @@ module _ (z : ℤ) (f : SFits w64 z) (m : ℕ) (e : m ≡ natAbs (toZ w64 (ofZ w
   size : m ≡ natAbs z
   size = e ∙ ap natAbs (toZ-ofZ w64 z f)
 
-  pub not-negative : leZ (pos 0) (toZ w64 (ofZ w64 z)) ≡ true → field (pos m) ≡ field z
-  not-negative t = ap (λ (n : ℕ). field (pos n)) size ∙ plain z f t
+  pub not-negative : leZ (pos 0) (toZ w64 (ofZ w64 z)) ≡ true → textField (pos m) ≡ textField z
+  not-negative t = ap (λ (n : ℕ). textField (pos n)) size ∙ plain z f t
     where
-      plain : (z : ℤ) → SFits w64 z → leZ (pos 0) (toZ w64 (ofZ w64 z)) ≡ true → field (pos (natAbs z)) ≡ field z
+      plain : (z : ℤ) → SFits w64 z → leZ (pos 0) (toZ w64 (ofZ w64 z)) ≡ true → textField (pos (natAbs z)) ≡ textField z
       plain (pos n) f t = refl
       plain (negsuc n) f t = absurd (off (cc (ap (leZ (pos 0)) (sym (toZ-ofZ w64 (negsuc n) f)), t)))
         where
           off : _≡_ {A = ℕ} 0 1 → ⊥
           off z = omega arith
 
-  pub is-negative : leZ (pos 0) (toZ w64 (ofZ w64 z)) ≡ false → 32 ∷ [] ++ 45 ∷ [] ++ decimal m ≡ field z
+  pub is-negative : leZ (pos 0) (toZ w64 (ofZ w64 z)) ≡ false → 32 ∷ [] ++ 45 ∷ [] ++ decimal m ≡ textField z
   is-negative t = ap (λ (n : ℕ). 32 ∷ 45 ∷ decimal n) size ∙ signed z f t
     where
-      signed : (z : ℤ) → SFits w64 z → leZ (pos 0) (toZ w64 (ofZ w64 z)) ≡ false → 32 ∷ 45 ∷ decimal (natAbs z) ≡ field z
+      signed : (z : ℤ) → SFits w64 z → leZ (pos 0) (toZ w64 (ofZ w64 z)) ≡ false → 32 ∷ 45 ∷ decimal (natAbs z) ≡ textField z
       signed (pos n) f t = not-below n f t
       signed (negsuc n) f t = refl
 
 -- a number that is handed on is the same number
-pub handed : (z : ℤ) → SFits w64 z → {m : ℕ} {o : List ℕ} {at : ℕ} {o′ : List ℕ} {r : ℕ} → Put m o at (field (toZ w64 (ofZ w64 z))) o′ r → Put m o at (field z) o′ r
-handed z f {m} {o} {at} {o′} {r} p = subst (λ (y : ℤ). Put m o at (field y) o′ r) (toZ-ofZ w64 z f) p
+pub handed : (z : ℤ) → SFits w64 z → {m : ℕ} {o : List ℕ} {at : ℕ} {o′ : List ℕ} {r : ℕ} → Put m o at (textField (toZ w64 (ofZ w64 z))) o′ r → Put m o at (textField z) o′ r
+handed z f {m} {o} {at} {o′} {r} p = subst (λ (y : ℤ). Put m o at (textField y) o′ r) (toZ-ofZ w64 z f) p

@@ -13,12 +13,12 @@ use Rattle.checker.specs.Calls.{netlistIn, checkVerdict, checkConstant}
 use Rattle.lines.specs.Decimal.{integer}
 
 -- a blank and a number
-abbrev pub field : ℤ → List ℕ
-field z = 32 ∷ integer z
+abbrev pub textField : ℤ → List ℕ
+textField z = 32 ∷ integer z
 
 -- `Q component colour weight` for weights other than 0; entry u is 8 times component plus colour
 unfoldable pub weightLine : ℕ → ℤ → List ℕ
-weightLine u w = cond (isZero w) [] (81 ∷ [] ++ field (pos (u / 8)) ++ field (pos (u % 8)) ++ field w ++ 10 ∷ [])
+weightLine u w = cond (isZero w) [] (81 ∷ [] ++ textField (pos (u / 8)) ++ textField (pos (u % 8)) ++ textField w ++ 10 ∷ [])
 
 -- the lines of the entries below n, ascending
 unfoldable pub weightLines : ℕ → (ℕ → ℤ) → List ℕ
@@ -27,11 +27,11 @@ weightLines (suc u) weights = weightLines u weights ++ weightLine u (weights u)
 
 -- `SUM K`
 unfoldable pub sumLine : ℤ → List ℕ
-sumLine k = 83 ∷ 85 ∷ 77 ∷ [] ++ field k ++ 10 ∷ []
+sumLine k = 83 ∷ 85 ∷ 77 ∷ [] ++ textField k ++ 10 ∷ []
 
 -- `NO number place`
 unfoldable pub refusalLine : ℕ → ℕ → List ℕ
-refusalLine number place = 78 ∷ 79 ∷ [] ++ field (pos number) ++ field (pos place) ++ 10 ∷ []
+refusalLine number place = 78 ∷ 79 ∷ [] ++ textField (pos number) ++ textField (pos place) ++ 10 ∷ []
 
 -- the text for what check says
 unfoldable pub textBy : Verdict → ℕ → (ℕ → ℤ) → ℤ → List ℕ

@@ -5,7 +5,7 @@ ghost use Prim.Native.Nat.{_+_, _≤_, _<_};
 ghost use lib.ListN.{length, getD, take, drop};
 ghost use lib.IntN.{pos, natAbs};
 ghost use Rattle.lines.specs.Decimal.{decimal};
-ghost use Rattle.lines.specs.Listing.{field, weightLine, weightLines, sumLine, refusalLine, listing};
+ghost use Rattle.lines.specs.Listing.{textField, weightLine, weightLines, sumLine, refusalLine, listing};
 ghost use Rattle.lines.specs.Put.{Put};
 use refusals::Verdict;
 
@@ -35,7 +35,7 @@ fn put_byte(out: &mut [u8], at: usize, b: u8) -> usize
 // A blank and a number.
 fn put_field(out: &mut [u8], at: usize, n: u64) -> usize
     requires { ⌜ at + 21 ≤ length (now out) ⌝ }
-    ensures { λ r. ⌜ Put 21 (now (out .entry)) at (field (pos n)) (now (out .exit)) r ⌝ }
+    ensures { λ r. ⌜ Put 21 (now (out .entry)) at (textField (pos n)) (now (out .exit)) r ⌝ }
 {
     let a = put_byte(&mut *out, at, b' ');
     put_number(&mut *out, a, n)
@@ -55,7 +55,7 @@ fn magnitude(w: i64) -> u64
 // A blank and a signed number.
 fn put_signed(out: &mut [u8], at: usize, w: i64) -> usize
     requires { ⌜ at + 22 ≤ length (now out) ⌝ }
-    ensures { λ r. ⌜ Put 22 (now (out .entry)) at (field w) (now (out .exit)) r ⌝ }
+    ensures { λ r. ⌜ Put 22 (now (out .entry)) at (textField w) (now (out .exit)) r ⌝ }
 {
     let m = magnitude(w);
     if 0 <= w {

@@ -9,7 +9,7 @@ use native.Mathlib.Nat.{eq-or-lt-of-le, le-of-suc-le-suc}
 use native.Mathlib.Omega.{arith}
 use lib.ListN.{length, getD, set, replicate, length-set, length-replicate}
 use Rattle.order.specs.Graph.{dep, walks, hasCircle, Sorted}
-use Rattle.order.specs.Places.{Good}
+use Rattle.order.specs.Places.{SoundPlaces}
 use Rattle.order.specs.Zeros.{zeros}
 use Rattle.order.proofs.Graph.{any-has, walks-zero, walks-suc}
 use Rattle.order.proofs.Zeros.{zeros-set, zeros-replicate}
@@ -73,11 +73,11 @@ module _ (T : List ℕ) (n : ℕ) where
         go (yes q) = q
         go (no q) = absurd (true≢false (sym (any-has n (walks (dep T) n n) s h (walks-on P w n s h (omega (arith, q)))) ∙ none))
 
-    done : {P O : List ℕ} {c : ℕ} → Good T P O c → length P ≡ n → ((s : ℕ) → s < n → 0 < getD P s 0) → Sorted (dep T) n O
+    done : {P O : List ℕ} {c : ℕ} → SoundPlaces T P O c → length P ≡ n → ((s : ℕ) → s < n → 0 < getD P s 0) → Sorted (dep T) n O
     done {P} {O} g l all = rw l at (sorted g (λ x h. all x (omega arith)))
 
     -- k signals are out: each turn puts one
-    grow : (k : ℕ) (P O : List ℕ) (c : ℕ) → zeros P ≡ k → length P ≡ n → Good T P O c → (Q : List ℕ) × Sorted (dep T) n Q
+    grow : (k : ℕ) (P O : List ℕ) (c : ℕ) → zeros P ≡ k → length P ≡ n → SoundPlaces T P O c → (Q : List ℕ) × Sorted (dep T) n Q
     grow zero P O c z l g = (O, done g l (λ s h. put s h (decLt 0 (getD P s 0))))
       where
         put : (s : ℕ) → s < n → Dec (0 < getD P s 0) → 0 < getD P s 0
@@ -87,7 +87,7 @@ module _ (T : List ℕ) (n : ℕ) where
       where
         go :
             ((s : ℕ) × (s < n) × ((getD P s 0 ≡ 0) × Ready P s)) ⊎ ((s : ℕ) → s < n → getD P s 0 ≡ 0 → Waits P s) →
-            ((P O : List ℕ) (c : ℕ) → zeros P ≡ k → length P ≡ n → Good T P O c → (Q : List ℕ) × Sorted (dep T) n Q) →
+            ((P O : List ℕ) (c : ℕ) → zeros P ≡ k → length P ≡ n → SoundPlaces T P O c → (Q : List ℕ) × Sorted (dep T) n Q) →
             (Q : List ℕ) × Sorted (dep T) n Q
         go (inr w) again = (O, done g l (all-in P w))
         go (inl (s, h, (e, ready))) again =

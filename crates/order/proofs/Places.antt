@@ -8,12 +8,12 @@ use native.Mathlib.Omega.{arith}
 use lib.ListN.{length, getD, set, replicate, length-set, length-replicate}
 use lib.Seq.{getD-set-same, getD-set-other}
 use Rattle.order.specs.Graph.{dep, Depends, walks, hasCircle, Sorted}
-use Rattle.order.specs.Places.{Good, Kept}
+use Rattle.order.specs.Places.{SoundPlaces, Kept}
 use Rattle.order.proofs.Graph.{any-some, walks-next}
 use Rattle.order.proofs.Zeros.{zeros-set, zeros-all, zeros-replicate, getD-zeros}
 
 -- nothing is in the order yet
-pub good-none : (D O : List ℕ) (n : ℕ) → 4 * n ≤ length D → n ≤ length O → n ≤ 510 → Good D (replicate n 0) O 0
+pub good-none : (D O : List ℕ) (n : ℕ) → 4 * n ≤ length D → n ≤ length O → n ≤ 510 → SoundPlaces D (replicate n 0) O 0
 good-none D O n t l h =
     let len = length-replicate {A = ℕ} n 0 in
     let z = getD-zeros n in
@@ -27,7 +27,7 @@ good-none D O n t l h =
       after = λ s j q. absurd (omega (arith, z s));
     }
 
-module _ {D P O : List ℕ} {c : ℕ} (g : Good D P O c) where
+module _ {D P O : List ℕ} {c : ℕ} (g : SoundPlaces D P O c) where
   -- a signal that is not in the order has room there
   pub room : (s : ℕ) → s < length P → getD P s 0 ≡ 0 → c < length P
   room s h e = omega (arith, zeros-set P s 1 h e (omega arith), g .full)
@@ -98,7 +98,7 @@ module _ {D P O : List ℕ} {c : ℕ} (g : Good D P O c) where
     pub put-kept : Kept P (set P s (c + 1))
     put-kept x q = rw (other x q) q
 
-    pub put-good : ((j : ℕ) → j < 4 → dep D s j < length P → 0 < getD P (dep D s j) 0) → Good D (set P s (c + 1)) (set O c s) (c + 1)
+    pub put-good : ((j : ℕ) → j < 4 → dep D s j < length P → 0 < getD P (dep D s j) 0) → SoundPlaces D (set P s (c + 1)) (set O c s) (c + 1)
     put-good deps =
         let len = length-set P s (c + 1) in
         let len′ = length-set O c s in

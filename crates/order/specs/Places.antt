@@ -11,7 +11,7 @@ use Rattle.order.specs.declared.Walk.the-variants.{Circle, Extended}
 
 -- P has 0 for a signal that is not in the order, else 1 + its place; the order is the first c entries of O.
 -- Each signal in the order stands after all that it depends on.
-pub record Good (D P O : List ℕ) (c : ℕ) : Type 0 where
+pub record SoundPlaces (D P O : List ℕ) (c : ℕ) : Type 0 where
   pub table : 4 * length P ≤ length D
   pub fits : length P ≤ length O
   pub short : length P ≤ 510
@@ -22,7 +22,7 @@ pub record Good (D P O : List ℕ) (c : ℕ) : Type 0 where
 
 -- before a visit of s: s is not in the order
 pub record Fresh (D : List ℕ) (s : ℕ) (P O : List ℕ) (c : ℕ) : Type 0 where
-  pub good : Good D P O c
+  pub good : SoundPlaces D P O c
   pub below : s < length P
   pub out : getD P s 0 ≡ 0
 
@@ -31,8 +31,8 @@ abbrev pub Kept : List ℕ → List ℕ → Type 0
 Kept P₀ P = (x : ℕ) → 0 < getD P₀ x 0 → 0 < getD P x 0
 
 -- after a visit of s that extended the order to c signals: s is the last of them
-pub record Grown (D : List ℕ) (s : ℕ) (P₀ P O : List ℕ) (c : ℕ) : Type 0 where
-  pub good : Good D P O c
+pub record GrownOrder (D : List ℕ) (s : ℕ) (P₀ P O : List ℕ) (c : ℕ) : Type 0 where
+  pub good : SoundPlaces D P O c
   pub kept : Kept P₀ P
   pub some : 0 < c
   pub last : getD P s 0 ≡ c
@@ -40,7 +40,7 @@ pub record Grown (D : List ℕ) (s : ℕ) (P₀ P O : List ℕ) (c : ℕ) : Type
 -- what a visit of s at the given depth answers
 abbrev pub visited : List ℕ → ℕ → ℕ → List ℕ → List ℕ → List ℕ → Walk → Type 0
 visited D s depth P₀ P O Circle = walks (dep D) (length P₀) depth s ≡ true
-visited D s depth P₀ P O (Extended c) = Grown D s P₀ P O c
+visited D s depth P₀ P O (Extended c) = GrownOrder D s P₀ P O c
 
 -- what the visit of all signals answers
 abbrev pub ordered : List ℕ → ℕ → List ℕ → Walk → Type 0

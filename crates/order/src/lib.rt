@@ -4,7 +4,7 @@ ghost use mathlib.Core.Path.{_≡_};
 ghost use Prim.Native.Nat.{_+_, _*_, _≤_, _<_};
 ghost use lib.ListN.{length, set};
 ghost use Rattle.order.specs.Graph.{dep, OrderOf};
-ghost use Rattle.order.specs.Places.{Good, Fresh, visited, ordered};
+ghost use Rattle.order.specs.Places.{SoundPlaces, Fresh, visited, ordered};
 
 // What a visit finds: a circle, or how many signals the order now has.
 enum Walk {
@@ -67,7 +67,7 @@ fn visit(
 
 // Visits all signals, of which there are as many as places, that are not in the order yet.
 fn visit_all(deps: &[u16; 2040], place: &mut [u16], order: &mut [u16; 510]) -> Walk
-    requires { ⌜ Good (now deps) (now place) (now order) 0 ⌝ }
+    requires { ⌜ SoundPlaces (now deps) (now place) (now order) 0 ⌝ }
     ensures { λ r. ⌜ ordered (now (deps .entry)) (length (now (place .entry))) (now (order .exit)) r ⌝ }
 {
     let mut c = 0;

@@ -15,13 +15,13 @@ use Rattle.component.specs.Row.{kindNumber}
 use Rattle.component.specs.Netlist.{Netlist, rowOf}
 use Rattle.wiring.specs.Signals.{endOf}
 use Rattle.reader.specs.Accepted.{AcceptedFabric}
-use Rattle.plan.specs.Plan.{fieldAt, field, placed, planned, Planned}
+use Rattle.plan.specs.Plan.{fieldAt, planField, placed, planned, Planned}
 
 pub row-kind : (t : List ℕ) (k : ℕ) → kindNumber (row t k) ≡ getD t (24 * k) 0
 row-kind t k = let e : 24 * k + 0 ≡ 24 * k = omega arith in row-at t k 0 (lit< tt) ∙ ap (λ (i : ℕ). getD t i 0) e
 
 -- number j of place i
-pub planned-at : (f : Netlist) (order : List ℕ) (i j : ℕ) → j < 6 → planned f order (6 * i + j) ≡ field f (getD order i 0) j
+pub planned-at : (f : Netlist) (order : List ℕ) (i j : ℕ) → j < 6 → planned f order (6 * i + j) ≡ planField f (getD order i 0) j
 unfolding planned
 planned-at f order i j h =
     let d : (6 * i + j) / 6 ≡ i = omega arith in
@@ -69,7 +69,7 @@ module _ {f : Netlist} {ends order : List ℕ} (a : AcceptedFabric f ends order)
   module _ {before now : List ℕ} {i : ℕ} (l : Laid f order before now i) (h : i < 2 * f .channels) (r : 12 * f .channels ≤ length before) where
     pub laid-more : (s e : ℕ) → s ≡ getD order i 0 → suc e ≡ getD ends s 0 → (after : List ℕ) → after ≡ placed now (6 * i) (fieldAt (rowOf f (e / 3)) s e) →
         Laid f order before after (i + 1)
-    unfolding field
+    unfolding planField
     laid-more s e es q after w =
         let below : s < 2 * f .channels = rw es (a .wires .sorted .below i h) in
         let g : e ≡ endOf (f .table) (f .components) s = noted s e below q in
@@ -101,10 +101,10 @@ is-planned {f} {ends} {order} a before now h e = record {
 }
 
 -- number j of place i of a plan
-pub place-number : {f : Netlist} {plan : List ℕ} (p : Planned f plan) (i j : ℕ) → i < 2 * f .channels → j < 6 → getD plan (6 * i + j) 0 ≡ field f (getD (p .order) i 0) j
+pub place-number : {f : Netlist} {plan : List ℕ} (p : Planned f plan) (i j : ℕ) → i < 2 * f .channels → j < 6 → getD plan (6 * i + j) 0 ≡ planField f (getD (p .order) i 0) j
 place-number {f} p i j h b = p .numbers (6 * i + j) (omega arith) ∙ planned-at f (p .order) i j b
 
-pub place-first : {f : Netlist} {plan : List ℕ} (p : Planned f plan) (i : ℕ) → i < 2 * f .channels → getD plan (6 * i) 0 ≡ field f (getD (p .order) i 0) 0
+pub place-first : {f : Netlist} {plan : List ℕ} (p : Planned f plan) (i : ℕ) → i < 2 * f .channels → getD plan (6 * i) 0 ≡ planField f (getD (p .order) i 0) 0
 place-first {f} {plan} p i h =
     let e : 6 * i ≡ 6 * i + 0 = omega arith in
     ap (λ (j : ℕ). getD plan j 0) e ∙ place-number p i 0 h (lit< tt)

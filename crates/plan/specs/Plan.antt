@@ -19,8 +19,8 @@ fieldAt row s e (suc (suc (suc zero))) = port row A
 fieldAt row s e (suc (suc (suc (suc zero)))) = port row B
 fieldAt row s e (suc (suc (suc (suc (suc j))))) = port row C
 
-unfoldable pub field : Netlist → ℕ → ℕ → ℕ
-field f s j =
+unfoldable pub planField : Netlist → ℕ → ℕ → ℕ
+planField f s j =
     let e : ℕ = endOf (f .table) (f .components) s in
     fieldAt (rowOf f (e / 3)) s e j
 
@@ -30,7 +30,7 @@ placed l at g = set (set (set (set (set (set l at (g 0)) (at + 1) (g 1)) (at + 2
 
 -- number j of the plan along an order
 unfoldable pub planned : Netlist → List ℕ → ℕ → ℕ
-planned f order j = field f (getD order (j / 6) 0) (j % 6)
+planned f order j = planField f (getD order (j / 6) 0) (j % 6)
 
 -- a plan of an accepted fabric, along an order in which each signal stands after all that it depends on
 pub record Planned (f : Netlist) (plan : List ℕ) : Type 0 where

@@ -9,7 +9,7 @@ use Rattle.record.specs.Table.{openTable}
 use Rattle.refusals.specs.Refusals.{firstRefusal}
 use Rattle.reader.specs.File.{headerFields, coloursIn, channelsIn, componentsIn, headerTests, recordTests, fileTests}
 use Rattle.reader.specs.Reading.{reading}
-use Rattle.refusals.specs.declared.Refusal.the-variants.{Short}
+use Rattle.refusals.specs.declared.Refusal.the-variants.{FileShort}
 use Rattle.refusals.specs.declared.Verdict.the-variants.{Accepted}
 use Rattle.reader.specs.declared.Reading.the-variants.{Fabric}
 use Rattle.refusals.proofs.Refusals.{refusal-append, cond-accepted, then-accepted}
@@ -23,7 +23,7 @@ module _ (file : List ℕ) {C M N : ℕ} (e : reading file ≡ Fabric C M N) whe
   -- an accepted file has the length and the sum that its header says
   pub accepted-header : HeaderFacts (headerFields file) file
   accepted-header =
-      let s = cond-accepted Short (ltb (length file) 4) _ (accepted-parts .0) in
+      let s = cond-accepted FileShort (ltb (length file) 4) _ (accepted-parts .0) in
       let h : List ℕ = headerFields file in
       header-facts h file
       (then-accepted (firstRefusal (headerTests h file)) _
@@ -32,7 +32,7 @@ module _ (file : List ℕ) {C M N : ℕ} (e : reading file ≡ Fabric C M N) whe
   -- and its records are right
   pub accepted-records : firstRefusal (recordTests C M file (openTable file N) N) ≡ Accepted
   accepted-records =
-      let s = cond-accepted Short (ltb (length file) 4) _ (accepted-parts .0) in
+      let s = cond-accepted FileShort (ltb (length file) 4) _ (accepted-parts .0) in
       let h : List ℕ = headerFields file in
       let r =
       then-accepted (firstRefusal (headerTests h file)) (firstRefusal (recordTests (coloursIn h) (channelsIn h) file (openTable file (componentsIn h)) (componentsIn h)))

@@ -16,10 +16,10 @@ use Rattle.component.proofs.Facts.{row-facts}
 use Rattle.wiring.specs.Ends.{isEnd, firstUnmatched}
 use Rattle.wiring.specs.Ports.{found}
 use Rattle.wiring.specs.Signals.{gives, dependence}
-use Rattle.wiring.specs.Steps.{signalAt, FoundEnds}
+use Rattle.wiring.specs.Stages.{signalAt, FoundEnds}
 use Rattle.wiring.proofs.Ends.{all-ends}
 use Rattle.refusals.specs.Refusals.{firstRefusal}
-use Rattle.refusals.specs.declared.Refusal.the-variants.{Channel, Circle}
+use Rattle.refusals.specs.declared.Refusal.the-variants.{ChannelEnds, Circle}
 use Rattle.refusals.specs.declared.Verdict.the-variants.{Accepted}
 use Rattle.refusals.proofs.Refusals.{cond-accepted}
 use Rattle.reader.specs.File.{headerFields, coloursIn, channelsIn, componentsIn, wireTests}
@@ -54,7 +54,7 @@ ends-exist table e = go (listed (λ s. found (gives table s) e) 513)
 wires-accepted : (table : List ℕ) (n channels : ℕ) → firstRefusal (wireTests table n channels) ≡ Accepted
     → (channels ≤ firstUnmatched table n channels) × (hasCircle (dependence table n) (2 * channels) ≡ false)
 wires-accepted table n channels e =
-    let s = cond-accepted (Channel (firstUnmatched table n channels)) (ltb (firstUnmatched table n channels) channels) _ e in
+    let s = cond-accepted (ChannelEnds (firstUnmatched table n channels)) (ltb (firstUnmatched table n channels) channels) _ e in
     (ltb-false (firstUnmatched table n channels) channels (s .0), cond-accepted Circle (hasCircle (dependence table n) (2 * channels)) Accepted (s .1) .0)
 
 -- the facts of every accepted file, with ends and an order that there are

@@ -18,16 +18,16 @@ use Rattle.record.proofs.Table.{length-rows, row-open}
 use Rattle.component.specs.Row.{rowOk}
 use Rattle.component.specs.Netlist.{netlist}
 use Rattle.component.proofs.Facts.{row-parts, kind-le, row-facts}
-use Rattle.wiring.specs.Steps.{Kinds, wired, Wiring}
+use Rattle.wiring.specs.Stages.{Kinds, wired, Wiring}
 use Rattle.wiring.specs.declared.Wired.{Wired}
 use Rattle.wiring.specs.declared.Wired.the-variants.{Sound, Unmatched, Circular}
 use Rattle.refusals.specs.Refusals.{firstRefusal}
 use Rattle.reader.specs.File.{headerFields, coloursIn, channelsIn, componentsIn, badRow, badRecord, firstBadRecord, headerTests, recordTests, wireTests}
 use Rattle.reader.specs.Reading.{readAs, reading}
-use Rattle.reader.specs.Steps.{headerRead, wiredVerdict, TableRead, Unpacking}
+use Rattle.reader.specs.Stages.{headerRead, wiredVerdict, TableRead, Unpacking}
 use Rattle.reader.specs.Accepted.{AcceptedFabric, ReadOf}
 use Rattle.refusals.specs.declared.Refusal.{Refusal}
-use Rattle.refusals.specs.declared.Refusal.the-variants.{Short, Edition, Range, Length, Sum, Field}
+use Rattle.refusals.specs.declared.Refusal.the-variants.{FileShort, WrongEdition, CountRange, WrongLength, ByteSum, BadField}
 use Rattle.refusals.specs.declared.Verdict.{Verdict}
 use Rattle.refusals.specs.declared.Verdict.the-variants.{Accepted, Refused}
 use Rattle.reader.specs.declared.Reading.{Reading}
@@ -62,11 +62,11 @@ module _ (colours channels n : ℕ) (file table : List ℕ) where
 
   pub records-accepted : firstRefusal (recordTests colours channels file table n) ≡ Accepted → (n ≤ firstBadRecord colours channels file table n) × (firstRefusal (wireTests table n channels) ≡ Accepted)
   records-accepted e =
-      let s = cond-accepted (Field (firstBadRecord colours channels file table n)) (ltb (firstBadRecord colours channels file table n) n) (firstRefusal (wireTests table n channels)) e in
+      let s = cond-accepted (BadField (firstBadRecord colours channels file table n)) (ltb (firstBadRecord colours channels file table n) n) (firstRefusal (wireTests table n channels)) e in
       (ltb-false (firstBadRecord colours channels file table n) n (s .0), s .1)
 
   module _ (bad : ℕ) (eb : bad ≡ firstBadRecord colours channels file table n) (answer : Reading) (ends order : List ℕ) where
-    pub table-field : bad < n → answer ≡ Rejected (Field bad) → TableRead colours channels n file table answer ends order
+    pub table-field : bad < n → answer ≡ Rejected (BadField bad) → TableRead colours channels n file table answer ends order
     table-field h e = record {
       is = e ∙ rw (← eb, lt-ltb bad n h);
       rows = λ a k l. good-records (records-accepted a .0) k l .1;
@@ -100,10 +100,10 @@ pub record HeaderFacts (h file : List ℕ) : Type 0 where
 
 pub header-facts : (h file : List ℕ) → firstRefusal (headerTests h file) ≡ Accepted → HeaderFacts h file
 header-facts h file e =
-    let s₁ = cond-accepted Edition (wrongEdition h) _ e in
-    let s₂ = cond-accepted Range (wrongRange h) _ (s₁ .1) in
-    let s₃ = cond-accepted Length (not (eqb (length file) (4 + 13 * componentsIn h))) _ (s₂ .1) in
-    let s₄ = cond-accepted Sum (not (eqb (sum file % 256) 0)) Accepted (s₃ .1) in
+    let s₁ = cond-accepted WrongEdition (wrongEdition h) _ e in
+    let s₂ = cond-accepted CountRange (wrongRange h) _ (s₁ .1) in
+    let s₃ = cond-accepted WrongLength (not (eqb (length file) (4 + 13 * componentsIn h))) _ (s₂ .1) in
+    let s₄ = cond-accepted ByteSum (not (eqb (sum file % 256) 0)) Accepted (s₃ .1) in
     let r = or-false (eqb (getD h 3 0) 0 || ltb 128 (getD h 3 0)) (eqb (getD h 4 0) 0) (s₂ .0) in
     let q = or-false (eqb (getD h 3 0) 0) (ltb 128 (getD h 3 0)) (r .0) in
     let d = or-false (not (eqb (getD h 0 0) 1)) (not (eqb (getD h 2 0) 0)) (s₁ .0) in
@@ -130,7 +130,7 @@ pub headed : (file : List ℕ) {h : List ℕ} {r x : Reading} → h ≡ headerFi
 headed f eh er ex = ap (λ (h : List ℕ). headerRead h f) (sym eh) ∙ sym er ∙ ex
 
 module _ (file : List ℕ) where
-  pub is-short : length file < 4 → reading file ≡ Rejected Short
+  pub is-short : length file < 4 → reading file ≡ Rejected FileShort
   unfolding reading
   is-short l = rw (lt-ltb (length file) 4 l)
 
@@ -142,7 +142,7 @@ module _ (file : List ℕ) where
     reading-is =
         let h : List ℕ = headerFields file in
         ap (λ (v : Verdict). readAs v (coloursIn h) (channelsIn h) (componentsIn h))
-        (ap (λ (b : Bool). cond b (Refused Short) (firstRefusal (headerTests h file ++ recordTests (coloursIn h) (channelsIn h) file (openTable file (componentsIn h)) (componentsIn h)))) (le-ltb (length file) 4 l)
+        (ap (λ (b : Bool). cond b (Refused FileShort) (firstRefusal (headerTests h file ++ recordTests (coloursIn h) (channelsIn h) file (openTable file (componentsIn h)) (componentsIn h)))) (le-ltb (length file) 4 l)
         ∙ refusal-append (headerTests h file) (recordTests (coloursIn h) (channelsIn h) file (openTable file (componentsIn h)) (componentsIn h)))
 
     pub is-rejected : (r : Refusal) → headerRead (headerFields file) file ≡ Rejected r → reading file ≡ Rejected r

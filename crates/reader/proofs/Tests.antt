@@ -12,13 +12,13 @@ use borrow.Author.Tests.{ne-eqb, eq-eqb, ltb-false}
 use Rattle.digits.specs.Sum.{sum}
 use Rattle.wiring.specs.Ends.{firstUnmatched}
 use Rattle.wiring.specs.Signals.{dependence}
-use Rattle.wiring.specs.Steps.{wired}
+use Rattle.wiring.specs.Stages.{wired}
 use Rattle.wiring.specs.declared.Wired.the-variants.{Sound, Unmatched, Circular}
 use Rattle.order.specs.Graph.{hasCircle}
 use Rattle.refusals.specs.Refusals.{firstRefusal}
 use Rattle.reader.specs.File.{headerFields, wireTests}
-use Rattle.reader.specs.Steps.{headerRead, wiredVerdict}
-use Rattle.refusals.specs.declared.Refusal.the-variants.{Edition, Range, Length, Sum, Channel, Circle}
+use Rattle.reader.specs.Stages.{headerRead, wiredVerdict}
+use Rattle.refusals.specs.declared.Refusal.the-variants.{WrongEdition, CountRange, WrongLength, ByteSum, ChannelEnds, Circle}
 use Rattle.refusals.specs.declared.Verdict.the-variants.{Accepted, Refused}
 use Rattle.reader.specs.declared.Reading.the-variants.{Fabric, Rejected}
 
@@ -26,7 +26,7 @@ pub wire-tests : (table : List ℕ) (n channels : ℕ) → wiredVerdict (wired t
 unfolding wired
 wire-tests table n channels = go (ltb (firstUnmatched table n channels) channels) (hasCircle (dependence table n) (2 * channels))
   where
-    go : (a b : Bool) → wiredVerdict (cond a (Unmatched (firstUnmatched table n channels)) (cond b Circular Sound)) ≡ cond a (Refused (Channel (firstUnmatched table n channels))) (cond b (Refused Circle) Accepted)
+    go : (a b : Bool) → wiredVerdict (cond a (Unmatched (firstUnmatched table n channels)) (cond b Circular Sound)) ≡ cond a (Refused (ChannelEnds (firstUnmatched table n channels))) (cond b (Refused Circle) Accepted)
     go true b = refl
     go false true = refl
     go false false = refl
@@ -39,21 +39,21 @@ abbrev pub wrongRange : List ℕ → Bool
 wrongRange h = eqb (getD h 3 0) 0 || ltb 128 (getD h 3 0) || eqb (getD h 4 0) 0
 
 module _ (h file : List ℕ) where
-  pub is-edition : wrongEdition h ≡ true → Rejected Edition ≡ headerRead h file
+  pub is-edition : wrongEdition h ≡ true → Rejected WrongEdition ≡ headerRead h file
   unfolding headerRead
   is-edition e = rw e
 
-  pub is-range : wrongEdition h ≡ false → wrongRange h ≡ true → Rejected Range ≡ headerRead h file
+  pub is-range : wrongEdition h ≡ false → wrongRange h ≡ true → Rejected CountRange ≡ headerRead h file
   unfolding headerRead
   is-range e₁ e₂ = rw (e₁, e₂)
 
   module _ (e₁ : wrongEdition h ≡ false) (e₂ : wrongRange h ≡ false) where
-    pub is-length : (length file ≡ 4 + 13 * getD h 3 0 → ⊥) → Rejected Length ≡ headerRead h file
+    pub is-length : (length file ≡ 4 + 13 * getD h 3 0 → ⊥) → Rejected WrongLength ≡ headerRead h file
     unfolding headerRead
     is-length n = rw (e₁, e₂, ne-eqb (length file) (4 + 13 * getD h 3 0) n)
 
     module _ (l : length file ≡ 4 + 13 * getD h 3 0) (s : ℕ) (es : s ≡ sum file % 256) where
-      pub is-sum : (s ≡ 0 → ⊥) → Rejected Sum ≡ headerRead h file
+      pub is-sum : (s ≡ 0 → ⊥) → Rejected ByteSum ≡ headerRead h file
       unfolding headerRead
       is-sum n = rw (e₁, e₂, eq-eqb (length file) (4 + 13 * getD h 3 0) l, ← es, ne-eqb s 0 n)
 

@@ -14,7 +14,7 @@ use Rattle.component.specs.Row.{rowOk}
 use Rattle.wiring.specs.Ends.{firstUnmatched}
 use Rattle.wiring.specs.Signals.{dependence}
 use Rattle.refusals.specs.Refusals.{Test, test}
-use Rattle.refusals.specs.declared.Refusal.the-variants.{Short, Edition, Range, Length, Sum, Field, Channel, Circle}
+use Rattle.refusals.specs.declared.Refusal.the-variants.{FileShort, WrongEdition, CountRange, WrongLength, ByteSum, BadField, ChannelEnds, Circle}
 
 -- Header, 4 bytes: edition 4 bits (1); C-1, 3 bits; one 0 bit; N, 8 bits (1..128); M, 8 bits (1..255); a check byte, 8 bits.
 abbrev pub headerWidths : List ℕ
@@ -53,25 +53,25 @@ firstBadRecord colours channels file table n = least (badRecord colours channels
 -- 2 edition or the 0 bit wrong. 3 N, M outside its range. 4 length not 4+13N. 5 byte sum.
 abbrev pub headerTests : List ℕ → List ℕ → List Test
 headerTests h file =
-    test Edition (not (eqb (getD h 0 0) 1) || not (eqb (getD h 2 0) 0))
-    ∷ test Range (eqb (componentsIn h) 0 || ltb 128 (componentsIn h) || eqb (channelsIn h) 0)
-    ∷ test Length (not (eqb (length file) (4 + 13 * componentsIn h)))
-    ∷ test Sum (not (eqb (sum file % 256) 0))
+    test WrongEdition (not (eqb (getD h 0 0) 1) || not (eqb (getD h 2 0) 0))
+    ∷ test CountRange (eqb (componentsIn h) 0 || ltb 128 (componentsIn h) || eqb (channelsIn h) 0)
+    ∷ test WrongLength (not (eqb (length file) (4 + 13 * componentsIn h)))
+    ∷ test ByteSum (not (eqb (sum file % 256) 0))
     ∷ []
 
 -- 7 a channel's ends (lowest channel). 8 a circle.
 abbrev pub wireTests : List ℕ → ℕ → ℕ → List Test
 wireTests table n channels =
-    test (Channel (firstUnmatched table n channels)) (ltb (firstUnmatched table n channels) channels)
+    test (ChannelEnds (firstUnmatched table n channels)) (ltb (firstUnmatched table n channels) channels)
     ∷ test Circle (hasCircle (dependence table n) (2 * channels))
     ∷ []
 
 abbrev pub recordTests : ℕ → ℕ → List ℕ → List ℕ → ℕ → List Test
 recordTests colours channels file table n =
-    test (Field (firstBadRecord colours channels file table n)) (ltb (firstBadRecord colours channels file table n) n) ∷ wireTests table n channels
+    test (BadField (firstBadRecord colours channels file table n)) (ltb (firstBadRecord colours channels file table n) n) ∷ wireTests table n channels
 
 -- 1 under 4 bytes
 abbrev pub fileTests : List ℕ → List Test
 fileTests file =
     let h : List ℕ = headerFields file in
-    (test Short (ltb (length file) 4) ∷ headerTests h file) ++ recordTests (coloursIn h) (channelsIn h) file (openTable file (componentsIn h)) (componentsIn h)
+    (test FileShort (ltb (length file) 4) ∷ headerTests h file) ++ recordTests (coloursIn h) (channelsIn h) file (openTable file (componentsIn h)) (componentsIn h)

@@ -1,4 +1,4 @@
 pub mod File
 pub mod Reading
 pub mod Accepted
-pub mod Steps
+pub mod Stages

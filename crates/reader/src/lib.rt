@@ -7,7 +7,7 @@ ghost use Rattle.digits.specs.Packed.{fields};
 ghost use Rattle.reader.specs.File.{badPad, firstBadRow, headerWidths, headerFields, badRow, firstBadRecord};
 ghost use Rattle.reader.specs.Reading.{readAs, verdictOf, coloursOf, channelsOf, reading};
 ghost use Rattle.reader.specs.Accepted.{ReadOf};
-ghost use Rattle.reader.specs.Steps.{headerRead, wiredVerdict, TableRead, Unpacking, Cleared};
+ghost use Rattle.reader.specs.Stages.{headerRead, wiredVerdict, TableRead, Unpacking, Cleared};
 use refusals::Refusal;
 use refusals::Verdict;
 
@@ -78,7 +78,7 @@ pub fn wired_verdict(w: wiring::Wired) -> Verdict
 {
     match w {
         wiring::Wired::Sound => Verdict::Accepted,
-        wiring::Wired::Unmatched(x) => Verdict::Refused(Refusal::Channel(x)),
+        wiring::Wired::Unmatched(x) => Verdict::Refused(Refusal::ChannelEnds(x)),
         wiring::Wired::Circular => Verdict::Refused(Refusal::Circle),
     }
 }
@@ -113,16 +113,16 @@ fn read_header(h: [u8; 6], file: &[u8]) -> Reading
     let channels = h[4];
     let n = components as usize;
     if (h[0] != 1) | (h[2] != 0) {
-        return Reading::Rejected(Refusal::Edition);
+        return Reading::Rejected(Refusal::WrongEdition);
     }
     if (components == 0) | (128 < components) | (channels == 0) {
-        return Reading::Rejected(Refusal::Range);
+        return Reading::Rejected(Refusal::CountRange);
     }
     if file.len() != 4 + 13 * n {
-        return Reading::Rejected(Refusal::Length);
+        return Reading::Rejected(Refusal::WrongLength);
     }
     if digits::byte_sum(file) != 0 {
-        return Reading::Rejected(Refusal::Sum);
+        return Reading::Rejected(Refusal::ByteSum);
     }
     Reading::Fabric {
         colours,
@@ -193,7 +193,7 @@ fn read_table(
     let n = components as usize;
     let bad = first_bad_record(file, table, n, colours, channels);
     if bad < n {
-        return Reading::Rejected(Refusal::Field(bad));
+        return Reading::Rejected(Refusal::BadField(bad));
     }
     let found = wiring::wire(table, n, channels as usize, &mut *ends, &mut *order);
     read_as(wired_verdict(found), colours, channels, components)
@@ -206,7 +206,7 @@ pub fn read(file: &[u8], table: &mut [u8], ends: &mut [u16], order: &mut [u16; 5
     ensures { λ r. ⌜ ReadOf (now (file .entry)) (now (table .entry)) (now (table .exit)) r (now (ends .exit)) (now (order .exit)) ⌝ }
 {
     if file.len() < 4 {
-        return Reading::Rejected(Refusal::Short);
+        return Reading::Rejected(Refusal::FileShort);
     }
     match read_header(header(file), file) {
         Reading::Rejected(e) => Reading::Rejected(e),

@@ -3,47 +3,47 @@ use Prim.Native.Nat.{ℕ}
 use mathlib.Core.Bool.{Bool, cond}
 use mathlib.Core.List.{List, [], _∷_}
 use Rattle.refusals.specs.declared.Refusal.{Refusal}
-use Rattle.refusals.specs.declared.Refusal.the-variants.{Short, Edition, Range, Length, Sum, Field, Channel, Circle, Choices, Choice, Terms, Term, Flow, Weightless, State, Cell, Space}
+use Rattle.refusals.specs.declared.Refusal.the-variants.{FileShort, WrongEdition, CountRange, WrongLength, ByteSum, BadField, ChannelEnds, Circle, ChoiceCount, BadChoice, ProposalLength, NoEquation, FlowLeft, NoWeight, StateShort, BadState, ResultSpace}
 use Rattle.refusals.specs.declared.Verdict.{Verdict}
 use Rattle.refusals.specs.declared.Verdict.the-variants.{Accepted, Refused}
 
 abbrev pub refusalNumber : Refusal → ℕ
-refusalNumber Short = 1
-refusalNumber Edition = 2
-refusalNumber Range = 3
-refusalNumber Length = 4
-refusalNumber Sum = 5
-refusalNumber (Field k) = 6
-refusalNumber (Channel x) = 7
+refusalNumber FileShort = 1
+refusalNumber WrongEdition = 2
+refusalNumber CountRange = 3
+refusalNumber WrongLength = 4
+refusalNumber ByteSum = 5
+refusalNumber (BadField k) = 6
+refusalNumber (ChannelEnds x) = 7
 refusalNumber Circle = 8
-refusalNumber Choices = 9
-refusalNumber (Choice i) = 10
-refusalNumber Terms = 11
-refusalNumber (Term i) = 12
-refusalNumber (Flow i) = 13
-refusalNumber Weightless = 14
-refusalNumber State = 21
-refusalNumber (Cell k) = 22
-refusalNumber Space = 23
+refusalNumber ChoiceCount = 9
+refusalNumber (BadChoice i) = 10
+refusalNumber ProposalLength = 11
+refusalNumber (NoEquation i) = 12
+refusalNumber (FlowLeft i) = 13
+refusalNumber NoWeight = 14
+refusalNumber StateShort = 21
+refusalNumber (BadState k) = 22
+refusalNumber ResultSpace = 23
 
 abbrev pub refusalPlace : Refusal → ℕ
-refusalPlace Short = 0
-refusalPlace Edition = 0
-refusalPlace Range = 0
-refusalPlace Length = 0
-refusalPlace Sum = 0
-refusalPlace (Field k) = k
-refusalPlace (Channel x) = x
+refusalPlace FileShort = 0
+refusalPlace WrongEdition = 0
+refusalPlace CountRange = 0
+refusalPlace WrongLength = 0
+refusalPlace ByteSum = 0
+refusalPlace (BadField k) = k
+refusalPlace (ChannelEnds x) = x
 refusalPlace Circle = 0
-refusalPlace Choices = 0
-refusalPlace (Choice i) = i
-refusalPlace Terms = 0
-refusalPlace (Term i) = i
-refusalPlace (Flow i) = i
-refusalPlace Weightless = 0
-refusalPlace State = 0
-refusalPlace (Cell k) = k
-refusalPlace Space = 0
+refusalPlace ChoiceCount = 0
+refusalPlace (BadChoice i) = i
+refusalPlace ProposalLength = 0
+refusalPlace (NoEquation i) = i
+refusalPlace (FlowLeft i) = i
+refusalPlace NoWeight = 0
+refusalPlace StateShort = 0
+refusalPlace (BadState k) = k
+refusalPlace ResultSpace = 0
 
 -- Success is 0 with place 0.
 abbrev pub numberOf : Verdict → ℕ

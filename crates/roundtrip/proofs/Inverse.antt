@@ -25,9 +25,9 @@ use Rattle.reader.specs.File.{headerWidths, headerFields, coloursIn, channelsIn
 use Rattle.fabric.specs.PackedFile.{headerBytes, packedFile}
 use Rattle.reader.specs.Reading.{reading}
 use Rattle.reader.proofs.Accepted.{accepted-header, accepted-parts, accepted-records, accepted-long}
-use Rattle.reader.specs.Steps.{headerRead}
-use Rattle.fabric.specs.Steps.{tableVerdict}
-use Rattle.refusals.specs.declared.Refusal.the-variants.{Field}
+use Rattle.reader.specs.Stages.{headerRead}
+use Rattle.fabric.specs.Stages.{tableVerdict}
+use Rattle.refusals.specs.declared.Refusal.the-variants.{BadField}
 use Rattle.refusals.specs.declared.Verdict.the-variants.{Accepted}
 use Rattle.reader.specs.declared.Reading.the-variants.{Fabric}
 use Rattle.reader.proofs.Tests.{wrongRange, is-right, colours-lt, channels-lt}
@@ -61,12 +61,12 @@ module _ (C M N : ℕ) (t : List ℕ) (i : Inside C M N) (long : length t ≡ 24
   unfolding packedFile
   length-packed = length-append (headerBytes C N M _) (records t N) ∙ omega (arith, length-header C N M (negated (sum (headerBytes C N M 0 ++ records t N))), length-records t N)
 
-  verdict : firstRefusal (test (Field (firstBadRow C M t N)) (ltb (firstBadRow C M t N) N) ∷ wireTests t N M) ≡ Accepted
+  verdict : firstRefusal (test (BadField (firstBadRow C M t N)) (ltb (firstBadRow C M t N) N) ∷ wireTests t N M) ≡ Accepted
   unfolding tableVerdict
   verdict = ok
 
   good : N ≤ firstBadRow C M t N
-  good = ltb-false (firstBadRow C M t N) N (cond-accepted (Field (firstBadRow C M t N)) (ltb (firstBadRow C M t N) N) (firstRefusal (wireTests t N M)) verdict .0)
+  good = ltb-false (firstBadRow C M t N) N (cond-accepted (BadField (firstBadRow C M t N)) (ltb (firstBadRow C M t N) N) (firstRefusal (wireTests t N M)) verdict .0)
 
   fits : (k : ℕ) → k < N → Fit rowWidths (row t k)
   fits k h =

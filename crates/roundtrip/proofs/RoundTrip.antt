@@ -11,7 +11,7 @@ use Rattle.record.proofs.Table.{length-rows}
 use Rattle.fabric.specs.PackedFile.{packedFile}
 use Rattle.reader.specs.Reading.{readAs, verdictOf, reading}
 use Rattle.fabric.specs.Calls.{unpacked, packed}
-use Rattle.fabric.specs.Steps.{roomFor}
+use Rattle.fabric.specs.Stages.{roomFor}
 use Rattle.roundtrip.specs.RoundTrip.{Bytes, fileOf, RoundTripFile, RoundTripTable, WrittenAccepted, OneFile, OneTable}
 use Rattle.refusals.specs.declared.Verdict.{Verdict}
 use Rattle.refusals.specs.declared.Verdict.the-variants.{Accepted, Refused}

@@ -10,7 +10,7 @@ use Rattle.refusals.specs.Refusals.{test, firstRefusal}
 use Rattle.fabric.specs.PackedFile.{packedFile}
 use Rattle.reader.specs.Reading.{verdictOf, reading}
 use Rattle.fabric.specs.Calls.{unpacked, unpackedTable, packed, packedInto}
-use Rattle.refusals.specs.declared.Refusal.the-variants.{Space}
+use Rattle.refusals.specs.declared.Refusal.the-variants.{ResultSpace}
 use Rattle.refusals.specs.declared.Verdict.the-variants.{Accepted}
 use Rattle.reader.specs.declared.Reading.the-variants.{Fabric}
 
@@ -34,7 +34,7 @@ RoundTripTable = (C M : ℕ) (table : List ℕ) → Bytes table → (given : ℕ
 -- a file that pack wrote is accepted by unpack, whatever space it is given: only 23 can refuse it
 abbrev pub WrittenAccepted : Type 0
 WrittenAccepted = (C M : ℕ) (table : List ℕ) → Bytes table → (given : ℕ) → packed C M table given ≡ Accepted → (space : ℕ)
-    → verdictOf (unpacked (fileOf C M table) space) ≡ firstRefusal (test Space (ltb space (24 * (length table / 24))) ∷ [])
+    → verdictOf (unpacked (fileOf C M table) space) ≡ firstRefusal (test ResultSpace (ltb space (24 * (length table / 24))) ∷ [])
 
 -- one encoding each
 abbrev pub OneFile : Type 0

@@ -8,12 +8,12 @@ use lib.ListN.{getD}
 use lib.Dec.{ltb}
 use Rattle.component.specs.Kind.{fork, join, switch, merge, kindOf, portOf, portUse, isUsed}
 use Rattle.component.specs.Row.{capacity}
-use Rattle.rules.specs.Rules.{bit, when, offered, orElse, mapped, component, rule}
-use Rattle.rules.specs.Seen.{seen, ruleOf, useOf, Offers, Takes}
+use Rattle.rules.specs.Rules.{bit, when, offered, orElse, mapped, componentWith, rule}
+use Rattle.rules.specs.Seen.{seen, ruleNumbered, useOf, Offers, Takes}
 
 module _ (row cell : List ℕ) (pick oa ob tb tc r : ℕ) where
   abbrev Ruled : ℕ → Type 0
-  Ruled n = r ≡ ruleOf n (component row cell pick) (seen oa ob tb tc)
+  Ruled n = r ≡ ruleNumbered n (componentWith row cell pick) (seen oa ob tb tc)
 
   pub source-a : r ≡ orElse (getD cell 0 0) pick → Ruled 0
   unfolding rule kindOf portOf portUse
@@ -43,47 +43,47 @@ module _ (row cell : List ℕ) (pick oa ob tb tc r : ℕ) where
   unfolding rule kindOf portOf portUse
   fork-a q = q
 
-  pub fork-b : ((s : List ℕ) (p o : ℕ) → Offers fork 1 (component row s p) (seen oa o tb tc) r) → Ruled 13
+  pub fork-b : ((s : List ℕ) (p o : ℕ) → Offers fork 1 (componentWith row s p) (seen oa o tb tc) r) → Ruled 13
   unfolding kindOf portOf portUse
   fork-b q = q cell pick ob refl
 
-  pub fork-c : ((s : List ℕ) (p o : ℕ) → Offers fork 2 (component row s p) (seen oa o tb tc) r) → Ruled 14
+  pub fork-c : ((s : List ℕ) (p o : ℕ) → Offers fork 2 (componentWith row s p) (seen oa o tb tc) r) → Ruled 14
   unfolding kindOf portOf portUse
   fork-c q = q cell pick ob refl
 
-  pub join-a : ((w s : List ℕ) (p t : ℕ) → Takes join 0 (component w s p) (seen oa ob t tc) r) → Ruled 15
+  pub join-a : ((w s : List ℕ) (p t : ℕ) → Takes join 0 (componentWith w s p) (seen oa ob t tc) r) → Ruled 15
   unfolding kindOf portOf portUse
   join-a q = q row cell pick tb refl
 
-  pub join-b : ((w s : List ℕ) (p t : ℕ) → Takes join 1 (component w s p) (seen oa ob t tc) r) → Ruled 16
+  pub join-b : ((w s : List ℕ) (p t : ℕ) → Takes join 1 (componentWith w s p) (seen oa ob t tc) r) → Ruled 16
   unfolding kindOf portOf portUse
   join-b q = q row cell pick tb refl
 
-  pub join-c : ((s : List ℕ) (p t u : ℕ) → r ≡ rule join (portOf 2) (component row s p) (seen oa ob t u)) → Ruled 17
+  pub join-c : ((s : List ℕ) (p t u : ℕ) → r ≡ rule join (portOf 2) (componentWith row s p) (seen oa ob t u)) → Ruled 17
   unfolding kindOf portOf portUse
   join-c q = q cell pick tb tc
 
-  pub switch-a : ((s : List ℕ) (p o : ℕ) → r ≡ rule switch (portOf 0) (component row s p) (seen oa o tb tc)) → Ruled 18
+  pub switch-a : ((s : List ℕ) (p o : ℕ) → r ≡ rule switch (portOf 0) (componentWith row s p) (seen oa o tb tc)) → Ruled 18
   unfolding kindOf portOf portUse
   switch-a q = q cell pick ob
 
-  pub switch-b : ((s : List ℕ) (p o t u : ℕ) → Offers switch 1 (component row s p) (seen oa o t u) r) → Ruled 19
+  pub switch-b : ((s : List ℕ) (p o t u : ℕ) → Offers switch 1 (componentWith row s p) (seen oa o t u) r) → Ruled 19
   unfolding kindOf portOf portUse
   switch-b q = q cell pick ob tb tc refl
 
-  pub switch-c : ((s : List ℕ) (p o t u : ℕ) → Offers switch 2 (component row s p) (seen oa o t u) r) → Ruled 20
+  pub switch-c : ((s : List ℕ) (p o t u : ℕ) → Offers switch 2 (componentWith row s p) (seen oa o t u) r) → Ruled 20
   unfolding kindOf portOf portUse
   switch-c q = q cell pick ob tb tc refl
 
-  pub merge-a : ((w s : List ℕ) (t : ℕ) → Takes merge 0 (component w s pick) (seen oa ob t tc) r) → Ruled 21
+  pub merge-a : ((w s : List ℕ) (t : ℕ) → Takes merge 0 (componentWith w s pick) (seen oa ob t tc) r) → Ruled 21
   unfolding kindOf portOf portUse
   merge-a q = q row cell tb refl
 
-  pub merge-b : ((w s : List ℕ) (t : ℕ) → Takes merge 1 (component w s pick) (seen oa ob t tc) r) → Ruled 22
+  pub merge-b : ((w s : List ℕ) (t : ℕ) → Takes merge 1 (componentWith w s pick) (seen oa ob t tc) r) → Ruled 22
   unfolding kindOf portOf portUse
   merge-b q = q row cell tb refl
 
-  pub merge-c : ((w s : List ℕ) (t u : ℕ) → r ≡ rule merge (portOf 2) (component w s pick) (seen oa ob t u)) → Ruled 23
+  pub merge-c : ((w s : List ℕ) (t u : ℕ) → r ≡ rule merge (portOf 2) (componentWith w s pick) (seen oa ob t u)) → Ruled 23
   unfolding kindOf portOf portUse
   merge-c q = q row cell tb tc
 

@@ -12,9 +12,9 @@ use Rattle.rules.specs.declared.Offer.{Offer}
 use Rattle.rules.specs.declared.Offer.the-variants.{Nothing, Colour}
 
 -- the number of an offer, and of a flag
-abbrev pub numberOf : Offer → ℕ
-numberOf Nothing = 0
-numberOf (Colour d) = suc d
+abbrev pub offerNumber : Offer → ℕ
+offerNumber Nothing = 0
+offerNumber (Colour d) = suc d
 
 abbrev pub bit : Bool → ℕ
 bit false = 0
@@ -67,8 +67,8 @@ pub record Component : Type 0 where
   pub cell : List ℕ
   pub choice : ℕ
 
-abbrev pub component : List ℕ → List ℕ → ℕ → Component
-component r s c = record { row = r; cell = s; choice = c }
+abbrev pub componentWith : List ℕ → List ℕ → ℕ → Component
+componentWith r s c = record { row = r; cell = s; choice = c }
 
 -- byte 0: what a source or a sink holds, or a queue's count; then a queue's colours, front first
 abbrev pub held : Component → ℕ

@@ -13,8 +13,8 @@ seen oa ob tb tc takeB = tb
 seen oa ob tb tc takeC = tc
 
 -- the rule of a number, which is 3 times the kind plus the port
-abbrev pub ruleOf : ℕ → Component → (Near → ℕ) → ℕ
-ruleOf n = rule (kindOf (n / 3)) (portOf (n % 3))
+abbrev pub ruleNumbered : ℕ → Component → (Near → ℕ) → ℕ
+ruleNumbered n = rule (kindOf (n / 3)) (portOf (n % 3))
 
 -- the side of its signal
 abbrev pub useOf : ℕ → Use

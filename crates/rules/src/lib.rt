@@ -6,7 +6,7 @@ ghost use lib.ListN.{length, getD};
 ghost use lib.Dec.{ltb};
 ghost use Rattle.component.specs.Kind.{fork, join, switch, merge, portOf};
 ghost use Rattle.component.specs.Row.{capacity};
-ghost use Rattle.rules.specs.Rules.{numberOf, bit, when, unless, offered, orElse, mapped, toB, picksB, component, rule};
+ghost use Rattle.rules.specs.Rules.{offerNumber, bit, when, unless, offered, orElse, mapped, toB, picksB, componentWith, rule};
 ghost use Rattle.rules.specs.Seen.{seen, Offers, Takes};
 
 // An offer: nothing, or a colour.
@@ -29,7 +29,7 @@ pub struct HeldSource {
 impl HeldSource {
     // The held colour if it has one, else its choice.
     pub fn offer(self, choice: Offer) -> Offer
-        ensures { λ r. ⌜ numberOf r ≡ orElse (numberOf (self .held)) (numberOf choice) ⌝ }
+        ensures { λ r. ⌜ offerNumber r ≡ orElse (offerNumber (self .held)) (offerNumber choice) ⌝ }
     {
         let h = self.held;
         match h {
@@ -40,7 +40,7 @@ impl HeldSource {
 
     // It holds its colour if that was offered and not taken.
     pub fn next(self, choice: Offer, taken: bool) -> HeldSource
-        ensures { λ r. ⌜ numberOf (r .held) ≡ unless (bit taken) (orElse (numberOf (self .held)) (numberOf choice)) ⌝ }
+        ensures { λ r. ⌜ offerNumber (r .held) ≡ unless (bit taken) (orElse (offerNumber (self .held)) (offerNumber choice)) ⌝ }
     {
         let o = self.offer(choice);
         if taken {
@@ -70,7 +70,7 @@ impl HeldSink {
 
     // It holds if it took and nothing was offered.
     pub fn next(self, chosen: bool, offer: Offer) -> HeldSink
-        ensures { λ r. ⌜ bit (r .held) ≡ unless (offered (numberOf offer)) (offered (orElse (bit (self .held)) (bit chosen))) ⌝ }
+        ensures { λ r. ⌜ bit (r .held) ≡ unless (offered (offerNumber offer)) (offered (orElse (bit (self .held)) (bit chosen))) ⌝ }
     {
         let t = self.take(chosen);
         match offer {
@@ -82,7 +82,7 @@ impl HeldSink {
 
 // The offer that a byte of the state or of the choices says.
 pub fn offer_of_byte(n: u8) -> Offer
-    ensures { λ r. ⌜ numberOf r ≡ n ⌝ }
+    ensures { λ r. ⌜ offerNumber r ≡ n ⌝ }
 {
     if n == 0 {
         return Offer::Nothing;
@@ -92,7 +92,7 @@ pub fn offer_of_byte(n: u8) -> Offer
 
 // The byte that says an offer; 0 for a colour of 255, which no fabric has.
 pub fn byte_of_offer(o: Offer) -> u8
-    ensures { λ r. ⌜ (numberOf o ≤ 255 → r ≡ numberOf o) ⌝ }
+    ensures { λ r. ⌜ (offerNumber o ≤ 255 → r ≡ offerNumber o) ⌝ }
 {
     match o {
         Offer::Colour(d) => {
@@ -106,7 +106,7 @@ pub fn byte_of_offer(o: Offer) -> u8
 }
 
 fn is_offered(o: Offer) -> bool
-    ensures { λ r. ⌜ bit r ≡ offered (numberOf o) ⌝ }
+    ensures { λ r. ⌜ bit r ≡ offered (offerNumber o) ⌝ }
 {
     match o {
         Offer::Colour(_) => true,
@@ -115,7 +115,7 @@ fn is_offered(o: Offer) -> bool
 }
 
 fn gate(g: bool, o: Offer) -> Offer
-    ensures { λ r. ⌜ numberOf r ≡ when (bit g) (numberOf o) ⌝ }
+    ensures { λ r. ⌜ offerNumber r ≡ when (bit g) (offerNumber o) ⌝ }
 {
     if g {
         return o;
@@ -134,7 +134,7 @@ pub fn both(p: bool, q: bool) -> bool
 
 // The colour of an offer, 0 for none.
 fn colour_of(o: Offer) -> usize
-    ensures { λ r. ⌜ (r ≡ numberOf o - 1) × (r < 256) ⌝ }
+    ensures { λ r. ⌜ (r ≡ offerNumber o - 1) × (r < 256) ⌝ }
 {
     match o {
         Offer::Colour(d) => d as usize,
@@ -158,7 +158,7 @@ fn entry_at(row: &[u8], j: usize) -> u8
 // The offer with its colour mapped, by the map at place `at` of the row.
 pub fn map_from(row: &[u8], at: usize, o: Offer) -> Offer
     requires { ⌜ (length (now row) ≡ 24) × (at ≤ 16) ⌝ }
-    ensures { λ r. ⌜ numberOf r ≡ mapped (λ d. getD (now (row .entry)) (at + d) 0) (numberOf o) ⌝ }
+    ensures { λ r. ⌜ offerNumber r ≡ mapped (λ d. getD (now (row .entry)) (at + d) 0) (offerNumber o) ⌝ }
 {
     let j = at + colour_of(o);
     let entry = entry_at(row, j);
@@ -171,7 +171,7 @@ pub fn map_from(row: &[u8], at: usize, o: Offer) -> Offer
 // The mask's answer for an offer's colour: true for B. Colour 0 is the highest bit.
 fn to_b(row: &[u8], o: Offer) -> bool
     requires { ⌜ length (now row) ≡ 24 ⌝ }
-    ensures { λ r. ⌜ bit r ≡ toB (now (row .entry)) (numberOf o) ⌝ }
+    ensures { λ r. ⌜ bit r ≡ toB (now (row .entry)) (offerNumber o) ⌝ }
 {
     let mask = row[20];
     match o {
@@ -188,7 +188,7 @@ fn to_b(row: &[u8], o: Offer) -> bool
 
 // A merge's pick: true for B.
 fn picks_b(pick: u8, a: Offer, b: Offer) -> bool
-    ensures { λ r. ⌜ bit r ≡ picksB pick (numberOf a) (numberOf b) ⌝ }
+    ensures { λ r. ⌜ bit r ≡ picksB pick (offerNumber a) (offerNumber b) ⌝ }
 {
     match a {
         Offer::Colour(_) => match b {
@@ -202,7 +202,7 @@ fn picks_b(pick: u8, a: Offer, b: Offer) -> bool
 // Source: its held colour if it has one, else its choice.
 pub fn source_offer(cell: &[u8], pick: u8) -> Offer
     requires { ⌜ length (now cell) ≡ 64 ⌝ }
-    ensures { λ r. ⌜ numberOf r ≡ orElse (getD (now (cell .entry)) 0 0) pick ⌝ }
+    ensures { λ r. ⌜ offerNumber r ≡ orElse (getD (now (cell .entry)) 0 0) pick ⌝ }
 {
     let n = cell[0];
     let h = offer_of_byte(n);
@@ -224,7 +224,7 @@ pub fn sink_take(cell: &[u8], pick: u8) -> bool
 // Queue: offers its front colour if not empty.
 pub fn queue_offer(cell: &[u8]) -> Offer
     requires { ⌜ length (now cell) ≡ 64 ⌝ }
-    ensures { λ r. ⌜ numberOf r ≡ when (getD (now (cell .entry)) 0 0) (suc (getD (now (cell .entry)) 1 0)) ⌝ }
+    ensures { λ r. ⌜ offerNumber r ≡ when (getD (now (cell .entry)) 0 0) (suc (getD (now (cell .entry)) 1 0)) ⌝ }
 {
     let n = cell[0];
     let front = cell[1];
@@ -247,7 +247,7 @@ pub fn queue_take(row: &[u8], cell: &[u8]) -> bool
 // Fork: B is offered the first map's colour if the input is offered and C takes; C likewise with the second map and B taking.
 pub fn fork_offer(row: &[u8], port: usize, a: Offer, bt: bool, ct: bool) -> Offer
     requires { ⌜ length (now row) ≡ 24 ⌝ }
-    ensures { λ r. ⌜ ((s : List ℕ) (p ob : ℕ) → Offers fork port (component (now (row .entry)) s p) (seen (numberOf a) ob (bit bt) (bit ct)) (numberOf r)) ⌝ }
+    ensures { λ r. ⌜ ((s : List ℕ) (p ob : ℕ) → Offers fork port (componentWith (now (row .entry)) s p) (seen (offerNumber a) ob (bit bt) (bit ct)) (offerNumber r)) ⌝ }
 {
     match port {
         1 => {
@@ -264,7 +264,7 @@ pub fn fork_offer(row: &[u8], port: usize, a: Offer, bt: bool, ct: bool) -> Offe
 // Join: offers the mapped colour of A if A and B are offered.
 pub fn join_offer(row: &[u8], a: Offer, b: Offer) -> Offer
     requires { ⌜ length (now row) ≡ 24 ⌝ }
-    ensures { λ r. ⌜ ((s : List ℕ) (p tb tc : ℕ) → numberOf r ≡ rule join (portOf 2) (component (now (row .entry)) s p) (seen (numberOf a) (numberOf b) tb tc)) ⌝ }
+    ensures { λ r. ⌜ ((s : List ℕ) (p tb tc : ℕ) → offerNumber r ≡ rule join (portOf 2) (componentWith (now (row .entry)) s p) (seen (offerNumber a) (offerNumber b) tb tc)) ⌝ }
 {
     let g = is_offered(b);
     let m = map_from(row, 4, a);
@@ -273,7 +273,7 @@ pub fn join_offer(row: &[u8], a: Offer, b: Offer) -> Offer
 
 // Join: A is taken if the output takes and B is offered; B if the output takes and A is offered.
 pub fn join_take(port: usize, a: Offer, b: Offer, ct: bool) -> bool
-    ensures { λ r. ⌜ ((w s : List ℕ) (p tb : ℕ) → Takes join port (component w s p) (seen (numberOf a) (numberOf b) tb (bit ct)) (bit r)) ⌝ }
+    ensures { λ r. ⌜ ((w s : List ℕ) (p tb : ℕ) → Takes join port (componentWith w s p) (seen (offerNumber a) (offerNumber b) tb (bit ct)) (bit r)) ⌝ }
 {
     match port {
         0 => {
@@ -290,7 +290,7 @@ pub fn join_take(port: usize, a: Offer, b: Offer, ct: bool) -> bool
 // Switch: offers its colour to the one output the mask names, none to the other.
 pub fn switch_offer(row: &[u8], port: usize, a: Offer) -> Offer
     requires { ⌜ length (now row) ≡ 24 ⌝ }
-    ensures { λ r. ⌜ ((s : List ℕ) (p ob tb tc : ℕ) → Offers switch port (component (now (row .entry)) s p) (seen (numberOf a) ob tb tc) (numberOf r)) ⌝ }
+    ensures { λ r. ⌜ ((s : List ℕ) (p ob tb tc : ℕ) → Offers switch port (componentWith (now (row .entry)) s p) (seen (offerNumber a) ob tb tc) (offerNumber r)) ⌝ }
 {
     let g = to_b(row, a);
     match port {
@@ -302,7 +302,7 @@ pub fn switch_offer(row: &[u8], port: usize, a: Offer) -> Offer
 // Switch: its input is taken if it is offered and that output takes.
 pub fn switch_take(row: &[u8], a: Offer, bt: bool, ct: bool) -> bool
     requires { ⌜ length (now row) ≡ 24 ⌝ }
-    ensures { λ r. ⌜ ((s : List ℕ) (p ob : ℕ) → bit r ≡ rule switch (portOf 0) (component (now (row .entry)) s p) (seen (numberOf a) ob (bit bt) (bit ct))) ⌝ }
+    ensures { λ r. ⌜ ((s : List ℕ) (p ob : ℕ) → bit r ≡ rule switch (portOf 0) (componentWith (now (row .entry)) s p) (seen (offerNumber a) ob (bit bt) (bit ct))) ⌝ }
 {
     let o = is_offered(a);
     let g = to_b(row, a);
@@ -314,7 +314,7 @@ pub fn switch_take(row: &[u8], a: Offer, bt: bool, ct: bool) -> bool
 
 // Merge: it offers the picked colour.
 pub fn merge_offer(pick: u8, a: Offer, b: Offer) -> Offer
-    ensures { λ r. ⌜ ((w s : List ℕ) (tb tc : ℕ) → numberOf r ≡ rule merge (portOf 2) (component w s pick) (seen (numberOf a) (numberOf b) tb tc)) ⌝ }
+    ensures { λ r. ⌜ ((w s : List ℕ) (tb tc : ℕ) → offerNumber r ≡ rule merge (portOf 2) (componentWith w s pick) (seen (offerNumber a) (offerNumber b) tb tc)) ⌝ }
 {
     let g = picks_b(pick, a, b);
     if g {
@@ -325,7 +325,7 @@ pub fn merge_offer(pick: u8, a: Offer, b: Offer) -> Offer
 
 // Merge: an input is taken if picked, offered and the output takes.
 pub fn merge_take(pick: u8, port: usize, a: Offer, b: Offer, ct: bool) -> bool
-    ensures { λ r. ⌜ ((w s : List ℕ) (tb : ℕ) → Takes merge port (component w s pick) (seen (numberOf a) (numberOf b) tb (bit ct)) (bit r)) ⌝ }
+    ensures { λ r. ⌜ ((w s : List ℕ) (tb : ℕ) → Takes merge port (componentWith w s pick) (seen (offerNumber a) (offerNumber b) tb (bit ct)) (bit r)) ⌝ }
 {
     let g = picks_b(pick, a, b);
     match port {

@@ -6,8 +6,8 @@ use Prim.Native.Nat.{ℕ, zero, suc, _+_, _*_, _≤_}
 use native.Mathlib.Omega.{arith}
 use lib.ListN.{getD}
 use Rattle.rules.specs.declared.Offer.{Offer}
-use Rattle.rules.specs.Rules.{numberOf, bit, when, offered, component}
-use Rattle.rules.specs.Seen.{seen, ruleOf}
+use Rattle.rules.specs.Rules.{offerNumber, bit, when, offered, componentWith}
+use Rattle.rules.specs.Seen.{seen, ruleNumbered}
 use Rattle.signals.specs.Channels.{seenAt, There, Readable}
 
 flag-is : (n : ℕ) → n ≤ 1 → offered n ≡ n
@@ -25,13 +25,13 @@ taken h t e = e ∙ flag-is _ (h .flag)
 
 module _ {n : ℕ} {signals row cell : List ℕ} {pick a b c : ℕ} (u : Readable n signals row cell pick a b c) (m : ℕ) (q : n ≡ m) {oa ob tb tc : ℕ}
     (ea : oa ≡ getD signals (2 * a) 0) (eb : ob ≡ getD signals (2 * b) 0) (ec : tb ≡ getD signals (2 * b + 1) 0) (ed : tc ≡ getD signals (2 * c + 1) 0) where
-  ruled : (r : ℕ) → r ≡ ruleOf m (component row cell pick) (seen oa ob tb tc) → r ≡ ruleOf n (component row cell pick) (seenAt signals a b c)
+  ruled : (r : ℕ) → r ≡ ruleNumbered m (componentWith row cell pick) (seen oa ob tb tc) → r ≡ ruleNumbered n (componentWith row cell pick) (seenAt signals a b c)
   ruled r e = rw (q, ← ea, ← eb, ← ec, ← ed) e
 
   -- an offer as a number, and a take
-  pub offers : (o : Offer) (r : ℕ) → (numberOf o ≤ 255 → r ≡ numberOf o) → numberOf o ≡ ruleOf m (component row cell pick) (seen oa ob tb tc) →
-      r ≡ ruleOf n (component row cell pick) (seenAt signals a b c)
-  offers o r w e = w (omega (arith, ruled (numberOf o) e, u .small)) ∙ ruled (numberOf o) e
+  pub offers : (o : Offer) (r : ℕ) → (offerNumber o ≤ 255 → r ≡ offerNumber o) → offerNumber o ≡ ruleNumbered m (componentWith row cell pick) (seen oa ob tb tc) →
+      r ≡ ruleNumbered n (componentWith row cell pick) (seenAt signals a b c)
+  offers o r w e = w (omega (arith, ruled (offerNumber o) e, u .small)) ∙ ruled (offerNumber o) e
 
-  pub takes : (t : Bool) (r : ℕ) → r ≡ bit t → bit t ≡ ruleOf m (component row cell pick) (seen oa ob tb tc) → r ≡ ruleOf n (component row cell pick) (seenAt signals a b c)
+  pub takes : (t : Bool) (r : ℕ) → r ≡ bit t → bit t ≡ ruleNumbered m (componentWith row cell pick) (seen oa ob tb tc) → r ≡ ruleNumbered n (componentWith row cell pick) (seenAt signals a b c)
   takes t r w e = w ∙ ruled (bit t) e

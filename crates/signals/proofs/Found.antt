@@ -14,12 +14,12 @@ use Rattle.component.specs.Row.{kindNumber, kind, port}
 use Rattle.component.specs.Netlist.{Netlist, rowOf}
 use Rattle.wiring.specs.Ends.{endPort, onSide}
 use Rattle.wiring.specs.Signals.{Near, offerA, offerB, takeB, takeC, isOffer, endOf}
-use Rattle.rules.specs.Rules.{Component, component, rule}
-use Rattle.rules.specs.Seen.{ruleOf, useOf}
+use Rattle.rules.specs.Rules.{Component, componentWith, rule}
+use Rattle.rules.specs.Seen.{ruleNumbered, useOf}
 use Rattle.rules.proofs.Rules.{reads-only}
 use Rattle.rules.proofs.Bounds.{when-le, unless-le, either-le, offered-le, bit-le}
 use Rattle.reader.specs.Accepted.{AcceptedFabric}
-use Rattle.plan.specs.Plan.{field, Planned}
+use Rattle.plan.specs.Plan.{planField, Planned}
 use Rattle.plan.proofs.Plan.{owner}
 use Rattle.signals.specs.Signals.{cell, componentAt, near, value}
 use Rattle.signals.specs.Signals as signals
@@ -92,12 +92,12 @@ found-all {f} {ends} {order} {state} {choices} {before} {now} entry a o h l e =
 
 -- ---- place i of a plan
 pub record Place (f : Netlist) (order : List ℕ) (i n s k pa pb pc : ℕ) : Type 0 where
-  pub number : n ≡ field f (getD order i 0) 0
-  pub signal : s ≡ field f (getD order i 0) 1
-  pub component : k ≡ field f (getD order i 0) 2
-  pub a : pa ≡ field f (getD order i 0) 3
-  pub b : pb ≡ field f (getD order i 0) 4
-  pub c : pc ≡ field f (getD order i 0) 5
+  pub number : n ≡ planField f (getD order i 0) 0
+  pub signal : s ≡ planField f (getD order i 0) 1
+  pub component : k ≡ planField f (getD order i 0) 2
+  pub a : pa ≡ planField f (getD order i 0) 3
+  pub b : pb ≡ planField f (getD order i 0) 4
+  pub c : pc ≡ planField f (getD order i 0) 5
 
 and-left : (x y : Bool) → (x && y) ≡ true → x ≡ true
 and-left true y h = refl
@@ -120,19 +120,19 @@ module _ {f : Netlist} {order : List ℕ} {i n s k pa pb pc : ℕ} (l : Place f 
   e = endOf (f .table) (f .components) t
 
   number-is : n ≡ 3 * kindNumber (rowOf f (e / 3)) + e % 3
-  unfolding field
+  unfolding planField
   number-is = l .number
 
   pub signal-is : s ≡ t
-  unfolding field
+  unfolding planField
   signal-is = l .signal
 
   component-is : k ≡ e / 3
-  unfolding field
+  unfolding planField
   component-is = l .component
 
   ports-are : (pa ≡ port (rowOf f (e / 3)) A) × (pb ≡ port (rowOf f (e / 3)) B) × (pc ≡ port (rowOf f (e / 3)) C)
-  unfolding field
+  unfolding planField
   ports-are = (l .a, l .b, l .c)
 
   kind-is : kind (rowOf f (e / 3)) ≡ kindOf (n / 3)
@@ -176,7 +176,7 @@ module _ {f : Netlist} {order : List ℕ} {i n s k pa pb pc : ℕ} (l : Place f 
       seen-near takeC = rw (ports-are .2)
 
       -- the rule gives the signal's value
-      pub value-is : ruleOf n (componentAt f state choices k) (seenAt now pa pb pc) ≡ value f state choices t
+      pub value-is : ruleNumbered n (componentAt f state choices k) (seenAt now pa pb pc) ≡ value f state choices t
       unfolding signals.ruleOf
       value-is =
           rw (← kind-is, ← port-is, component-is)
@@ -200,12 +200,12 @@ module _ {f : Netlist} {order : List ℕ} {i n s k pa pb pc : ℕ} (l : Place f 
       odd x q = let m : t % 2 ≡ 1 = omega arith in rw m
 
       -- a take is 0 or 1
-      flag-le : (x : ℕ) → t ≡ 2 * x + 1 → ruleOf n (componentAt f state choices k) (seenAt now pa pb pc) ≤ 1
+      flag-le : (x : ℕ) → t ≡ 2 * x + 1 → ruleNumbered n (componentAt f state choices k) (seenAt now pa pb pc) ≤ 1
       flag-le x q =
           let g : isInput (portUse (kind (rowOf f (e / 3))) (endPort e)) ≡ true = rw (odd x q) at given-side in
           take-le (kindOf (n / 3)) (portOf (n % 3)) (rw (← kind-is, ← port-is) g) (componentAt f state choices k) (seenAt now pa pb pc) (o .flags pb (ports-below .1)) (o .flags pc (ports-below .2))
 
-      pub turn : (v : ℕ) → v ≡ ruleOf n (componentAt f state choices k) (seenAt now pa pb pc) → Found f order state choices before (set now s v) (i + 1)
+      pub turn : (v : ℕ) → v ≡ ruleNumbered n (componentAt f state choices k) (seenAt now pa pb pc) → Found f order state choices before (set now s v) (i + 1)
       turn v w = record {
         few = omega arith;
         long = simp length-set (o .long);

@@ -7,8 +7,8 @@ use lib.ListN.{length, getD}
 use Rattle.component.specs.Kind.{isUsed}
 use Rattle.component.specs.Netlist.{Netlist}
 use Rattle.wiring.specs.Signals.{Near}
-use Rattle.rules.specs.Rules.{when, component}
-use Rattle.rules.specs.Seen.{seen, ruleOf, useOf}
+use Rattle.rules.specs.Rules.{when, componentWith}
+use Rattle.rules.specs.Seen.{seen, ruleNumbered, useOf}
 use Rattle.plan.specs.Plan.{Planned}
 use Rattle.signals.specs.Signals.{value}
 
@@ -35,7 +35,7 @@ pub record Readable (n : ℕ) (signals row cell : List ℕ) (pick a b c : ℕ) :
   pub atA : There signals a
   pub atB : There signals b
   pub atC : There signals c
-  pub small : ruleOf n (component row cell pick) (seenAt signals a b c) ≤ 8
+  pub small : ruleNumbered n (componentWith row cell pick) (seenAt signals a b c) ≤ 8
 
 -- A plan of an accepted fabric, with its state and choices. plan::lay_out establishes `planned`; `states` and `chosen` hold once a call
 -- is not refused by 21 and 9; `small` holds in every good state under allowed choices, where no signal is above the

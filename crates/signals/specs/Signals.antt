@@ -11,14 +11,14 @@ use Rattle.component.specs.Row.{kind}
 use Rattle.component.specs.Netlist.{Netlist, rowOf}
 use Rattle.wiring.specs.Ends.{endPort}
 use Rattle.wiring.specs.Signals.{Near, signalOf, endOf}
-use Rattle.rules.specs.Rules.{Component, component, rule, when}
+use Rattle.rules.specs.Rules.{Component, componentWith, rule, when}
 
 -- 64 bytes a component
 abbrev pub cell : List ℕ → ℕ → List ℕ
 cell state k = take 64 (drop (64 * k) state)
 
 abbrev pub componentAt : Netlist → List ℕ → List ℕ → ℕ → Component
-componentAt f state choices k = component (rowOf f k) (cell state k) (getD choices k 0)
+componentAt f state choices k = componentWith (rowOf f k) (cell state k) (getD choices k 0)
 
 -- what the rules of a row read, where v gives all signals
 abbrev pub near : List ℕ → (ℕ → ℕ) → Near → ℕ

@@ -6,8 +6,8 @@ ghost use Prim.Native.Nat.{_+_, _*_, _≤_, _<_};
 ghost use lib.ListN.{length, getD, drop};
 ghost use Rattle.digits.specs.UpTo.{upTo};
 ghost use Rattle.component.specs.Netlist.{netlist};
-ghost use Rattle.rules.specs.Rules.{numberOf, bit, when, offered, component};
-ghost use Rattle.rules.specs.Seen.{ruleOf};
+ghost use Rattle.rules.specs.Rules.{offerNumber, bit, when, offered, componentWith};
+ghost use Rattle.rules.specs.Seen.{ruleNumbered};
 ghost use Rattle.signals.specs.Signals.{value};
 ghost use Rattle.signals.specs.Channels.{seenAt, movedIn, Readable, Ready};
 use component::Size;
@@ -26,7 +26,7 @@ fn bit_of(t: bool) -> u8
 // The offer on channel x.
 fn offer_at(signals: &[u8], x: usize) -> Offer
     requires { ⌜ (x < 256) × (2 * x + 1 < length (now signals)) ⌝ }
-    ensures { λ r. ⌜ numberOf r ≡ getD (now (signals .entry)) (2 * x) 0 ⌝ }
+    ensures { λ r. ⌜ offerNumber r ≡ getD (now (signals .entry)) (2 * x) 0 ⌝ }
 {
     rules::offer_of_byte(signals[2 * x])
 }
@@ -42,7 +42,7 @@ fn take_at(signals: &[u8], x: usize) -> bool
 // The two signals of channel x.
 fn channel_at(signals: &[u8], x: usize) -> Channel
     requires { ⌜ (x < 256) × (2 * x + 1 < length (now signals)) ⌝ }
-    ensures { λ r. ⌜ (numberOf (r .offer) ≡ getD (now (signals .entry)) (2 * x) 0) × (bit (r .take) ≡ offered (getD (now (signals .entry)) (2 * x + 1) 0)) ⌝ }
+    ensures { λ r. ⌜ (offerNumber (r .offer) ≡ getD (now (signals .entry)) (2 * x) 0) × (bit (r .take) ≡ offered (getD (now (signals .entry)) (2 * x + 1) 0)) ⌝ }
 {
     let o = offer_at(signals, x);
     let t = take_at(signals, x);
@@ -51,7 +51,7 @@ fn channel_at(signals: &[u8], x: usize) -> Channel
 
 // What moves on a channel: 0, or 1 + the colour.
 fn moved_on(c: Channel) -> u8
-    ensures { λ r. ⌜ (numberOf (c .offer) ≤ 255 → r ≡ when (bit (c .take)) (numberOf (c .offer))) ⌝ }
+    ensures { λ r. ⌜ (offerNumber (c .offer) ≤ 255 → r ≡ when (bit (c .take)) (offerNumber (c .offer))) ⌝ }
 {
     let o = c.offer;
     if c.take {
@@ -72,7 +72,7 @@ fn signal(
     pc: usize,
 ) -> u8
     requires { ⌜ Readable rule (now signals) (now row) (now cell) pick pa pb pc ⌝ }
-    ensures { λ r. ⌜ r ≡ ruleOf rule (component (now (row .entry)) (now (cell .entry)) pick) (seenAt (now (signals .entry)) pa pb pc) ⌝ }
+    ensures { λ r. ⌜ r ≡ ruleNumbered rule (componentWith (now (row .entry)) (now (cell .entry)) pick) (seenAt (now (signals .entry)) pa pb pc) ⌝ }
 {
     match rule {
         // Source.

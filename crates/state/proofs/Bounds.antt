@@ -17,7 +17,7 @@ use Rattle.signals.proofs.Signals.{giver}
 use Rattle.plan.specs.Plan.{Planned}
 use Rattle.signals.specs.Channels.{Ready}
 use Rattle.signals.specs.Signals.{componentAt, near, ruleOf, value, moved}
-use Rattle.state.specs.Step.{Steps}
+use Rattle.state.specs.Step.{CanStep}
 use Rattle.state.proofs.Choices.{source-choice}
 use Rattle.state.proofs.Good.{emitted-le, source-held, queue-colour}
 
@@ -57,7 +57,7 @@ module _ (c : ℕ) (one : 1 ≤ c) (o : Component) (v : Near → ℕ) (first : (
   rule-le merge B h q = search bounds
   rule-le merge C h q = search bounds
 
-module _ (f : Netlist) (ends order state choices : List ℕ) (t : Steps f ends order state choices) where
+module _ (f : Netlist) (ends order state choices : List ℕ) (t : CanStep f ends order state choices) where
   -- a source's held colour and choice, a queue's front
   held-le : (k : ℕ) → k < f .components → kind (rowOf f k) ≡ source → (held (componentAt f state choices k) ≤ f .colours) × (getD choices k 0 ≤ f .colours)
   held-le k h e = (

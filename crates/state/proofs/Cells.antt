@@ -11,7 +11,7 @@ use lib.Seq.{paste, paste-suc, take-at, drop-at, set-at, drop-cons, drop-drop, a
 use borrow.Rule.Slice.PartMut.{putMid, same-len-mid}
 use Rattle.rules.specs.Rules.{offered}
 use Rattle.signals.specs.Signals.{cell}
-use Rattle.state.specs.Cells.{coloursOf, cellWith, cells}
+use Rattle.state.specs.Cells.{queueColours, cellWith, cells}
 use Rattle.state.specs.Step.{appended}
 use Rattle.state.specs.Updatable.{Queue, newest}
 
@@ -95,14 +95,14 @@ unfolding cellWith
 cell-length cs h = simp (length-append, length-replicate) (omega arith)
 
 pub queue-length : (cell : List ℕ) → Queue cell → length cell ≡ 64
-queue-length cell z = ap length (z .shape) ∙ cell-length (coloursOf cell) (z .fits)
+queue-length cell z = ap length (z .shape) ∙ cell-length (queueColours cell) (z .fits)
 
-pub queue-count : (cell : List ℕ) → Queue cell → getD cell 0 0 ≡ length (coloursOf cell)
+pub queue-count : (cell : List ℕ) → Queue cell → getD cell 0 0 ≡ length (queueColours cell)
 unfolding cellWith
 queue-count cell z = ap (λ (l : List ℕ). getD l 0 0) (z .shape)
 
-pub colours-of-cell : (cs : List ℕ) → coloursOf (cellWith cs) ≡ cs
-unfolding coloursOf cellWith
+pub colours-of-cell : (cs : List ℕ) → queueColours (cellWith cs) ≡ cs
+unfolding queueColours cellWith
 colours-of-cell cs = take-append-seam cs (replicate (63 - length cs) 0)
 
 pub cell-queue : (cs : List ℕ) → length cs ≤ 63 → Queue (cellWith cs)
@@ -146,10 +146,10 @@ front-law (c ∷ cs) h f =
     drop-end : (t : List ℕ) → length t ≡ 62 → drop 62 t ≡ []
     drop-end t l = ap (λ (n : ℕ). drop n t) (sym l) ∙ drop-length t
 
-pub cell-dropped : (q : List ℕ) → Queue q → 0 < length (coloursOf q) →
-    set (set (paste q 1 (drop 2 q) 62) 63 0) 0 (getD q 0 0 - 1) ≡ cellWith (drop 1 (coloursOf q))
+pub cell-dropped : (q : List ℕ) → Queue q → 0 < length (queueColours q) →
+    set (set (paste q 1 (drop 2 q) 62) 63 0) 0 (getD q 0 0 - 1) ≡ cellWith (drop 1 (queueColours q))
 cell-dropped q z h =
-    ap (λ (l : List ℕ). set (set (paste l 1 (drop 2 l) 62) 63 0) 0 (getD l 0 0 - 1)) (z .shape) ∙ front-law (coloursOf q) h (z .fits)
+    ap (λ (l : List ℕ). set (set (paste l 1 (drop 2 l) 62) 63 0) 0 (getD l 0 0 - 1)) (z .shape) ∙ front-law (queueColours q) h (z .fits)
 
 back-law : (cs : List ℕ) (d : ℕ) → length cs < 63 →
     set (set (cellWith cs) (getD (cellWith cs) 0 0 + 1) d) 0 (getD (cellWith cs) 0 0 + 1) ≡ cellWith (cs ++ (d ∷ []))
@@ -159,11 +159,11 @@ back-law cs d f =
     let l : length (cs ++ (d ∷ [])) ≡ suc (length cs) = length-append cs (d ∷ []) ∙ add-one (length cs) in
     rw (l, g, add-one, append-snoc) (ap (λ (l : List ℕ). suc (length cs) ∷ l) (set-append-seam cs 0 (replicate (63 - suc (length cs)) 0) d))
 
-pub cell-appended : (q : List ℕ) (d : ℕ) → Queue q → length (coloursOf q) < 63 → set (set q (getD q 0 0 + 1) d) 0 (getD q 0 0 + 1) ≡ cellWith (coloursOf q ++ (d ∷ []))
-cell-appended q d z h = ap (λ (l : List ℕ). set (set l (getD l 0 0 + 1) d) 0 (getD l 0 0 + 1)) (z .shape) ∙ back-law (coloursOf q) d h
+pub cell-appended : (q : List ℕ) (d : ℕ) → Queue q → length (queueColours q) < 63 → set (set q (getD q 0 0 + 1) d) 0 (getD q 0 0 + 1) ≡ cellWith (queueColours q ++ (d ∷ []))
+cell-appended q d z h = ap (λ (l : List ℕ). set (set l (getD l 0 0 + 1) d) 0 (getD l 0 0 + 1)) (z .shape) ∙ back-law (queueColours q) d h
 
 -- what came in, written behind the last colour; nothing, and the last byte written anew
-pub cell-came : (q : List ℕ) (ma : ℕ) → Queue q → length (coloursOf q) + offered ma ≤ 63 →
-    set (set q (getD q 0 0 + offered ma) (newest ma (getD q (getD q 0 0 + offered ma) 0))) 0 (getD q 0 0 + offered ma) ≡ cellWith (appended ma (coloursOf q))
+pub cell-came : (q : List ℕ) (ma : ℕ) → Queue q → length (queueColours q) + offered ma ≤ 63 →
+    set (set q (getD q 0 0 + offered ma) (newest ma (getD q (getD q 0 0 + offered ma) 0))) 0 (getD q 0 0 + offered ma) ≡ cellWith (appended ma (queueColours q))
 cell-came q zero z h = rw (add-zero, set-getD q (getD q 0 0) 0, set-getD q 0 0) (z .shape)
 cell-came q (suc d) z h = cell-appended q d z (omega arith)

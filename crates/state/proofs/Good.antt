@@ -15,7 +15,7 @@ use Rattle.component.specs.Netlist.{Netlist, rowOf}
 use Rattle.component.specs.Row.{kind, masked, capacity}
 use Rattle.reader.specs.Accepted.{AcceptedFabric}
 use Rattle.signals.specs.Signals.{cell}
-use Rattle.state.specs.Cells.{coloursOf, cellWith}
+use Rattle.state.specs.Cells.{queueColours, cellWith}
 use Rattle.state.specs.Good.{emitted, goodByte, all, goodCell, Good, badComponent}
 use Rattle.state.specs.Updatable.{Queue}
 
@@ -83,7 +83,7 @@ zeros (x ∷ l) h = cc (h 0 (omega arith), zeros l (λ j m. h (suc j) (omega ari
 
 -- a list of a count, colours and zeros is a queue's cell
 whole : (s : List ℕ) → length s ≡ 64 → getD s 0 0 ≤ 63 → ((j : ℕ) → j < 63 → getD s 0 0 ≤ j → getD s (suc j) 0 ≡ 0) → Queue s
-unfolding coloursOf cellWith
+unfolding queueColours cellWith
 whole [] l c h = absurd (omega arith)
 whole (b ∷ t) l c h = record { shape = shape; fits = omega (arith, count) }
   where

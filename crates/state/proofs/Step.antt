@@ -15,9 +15,9 @@ use Rattle.component.specs.Netlist.{Netlist, rowOf}
 use Rattle.component.specs.Row.{kind, port, capacity}
 use Rattle.rules.specs.Rules.{unless, offered, orElse}
 use Rattle.signals.specs.Signals.{cell, componentAt, moved, moves}
-use Rattle.state.specs.Cells.{coloursOf, cellWith}
+use Rattle.state.specs.Cells.{queueColours, cellWith}
 use Rattle.state.specs.Good.{emitted, goodByte, goodCell, Good}
-use Rattle.state.specs.Step.{dropped, appended, cellNext, nextAt, stateNext, next, Steps}
+use Rattle.state.specs.Step.{dropped, appended, cellNext, nextAt, stateNext, next, CanStep}
 use Rattle.state.proofs.Bounds.{moved-le}
 use Rattle.state.proofs.Cells.{cells-long, cells-at, cells-same, queue-length, queue-count, cell-queue}
 use Rattle.state.proofs.Choices.{source-choice}
@@ -32,7 +32,7 @@ appended-length (suc d) cs = length-append cs (d ∷ [])
 held-long : (s : List ℕ) (b : ℕ) → length s ≡ 64 → length (b ∷ drop 1 s) ≡ 64
 held-long s b h = simp length-drop (omega arith)
 
-module _ (f : Netlist) (ends order state choices : List ℕ) (t : Steps f ends order state choices) where
+module _ (f : Netlist) (ends order state choices : List ℕ) (t : CanStep f ends order state choices) where
   -- component k after the step, from what moved at its ports
   at-ports : (rest : List ℕ) (k : ℕ) → k < f .components → nextAt f state choices (moves f state choices ++ rest) k ≡
       cellNext (kind (rowOf f k)) (componentAt f state choices k) (moved f state choices (port (rowOf f k) A)) (moved f state choices (port (rowOf f k) B))
@@ -52,7 +52,7 @@ module _ (f : Netlist) (ends order state choices : List ℕ) (t : Steps f ends o
 
   -- a queue's colours after the step are at most 63
   pub queue-fits : (k : ℕ) → k < f .components → kind (rowOf f k) ≡ queue →
-      length (appended (moved f state choices (port (rowOf f k) A)) (dropped (moved f state choices (port (rowOf f k) B)) (coloursOf (cell state k)))) ≤ 63
+      length (appended (moved f state choices (port (rowOf f k) A)) (dropped (moved f state choices (port (rowOf f k) B)) (queueColours (cell state k)))) ≤ 63
   queue-fits k h e = rw appended-length (queue-moves f ends order state choices t k h e .room)
 
   next-long : (k : ℕ) → k < f .components → length (nextAt f state choices (moves f state choices) k) ≡ 64
@@ -66,7 +66,7 @@ module _ (f : Netlist) (ends order state choices : List ℕ) (t : Steps f ends o
       ma = moved f state choices (port (rowOf f k) A)
 
       after : List ℕ
-      after = appended ma (dropped (moved f state choices (port (rowOf f k) B)) (coloursOf (cell state k)))
+      after = appended ma (dropped (moved f state choices (port (rowOf f k) B)) (queueColours (cell state k)))
 
       held : ℕ
       held = orElse (getD (cell state k) 0 0) (getD choices k 0)
@@ -144,7 +144,7 @@ room-for : (n c m : ℕ) → n ≤ c → (0 < m → n < c) → n + offered m ≤
 room-for n c zero h f = omega arith
 room-for n c (suc m) h f = omega (arith, f (omega arith))
 
-module _ (f : Netlist) (ends order state choices : List ℕ) (t : Steps f ends order state choices) (k : ℕ) (h : k < f .components) where
+module _ (f : Netlist) (ends order state choices : List ℕ) (t : CanStep f ends order state choices) (k : ℕ) (h : k < f .components) where
   abbrev ma : ℕ
   ma = moved f state choices (port (rowOf f k) A)
 
@@ -152,8 +152,8 @@ module _ (f : Netlist) (ends order state choices : List ℕ) (t : Steps f ends o
   mb = moved f state choices (port (rowOf f k) B)
 
   -- the colours of a queue, before and after
-  queue-below : kind (rowOf f k) ≡ queue → Below (f .colours) (coloursOf (cell state k))
-  unfolding coloursOf
+  queue-below : kind (rowOf f k) ≡ queue → Below (f .colours) (queueColours (cell state k))
+  unfolding queueColours
   queue-below e = record { each = λ j l. each j l }
     where
       count : getD (cell state k) 0 0 ≡ length (take (getD (cell state k) 0 0) (drop 1 (cell state k)))
@@ -166,9 +166,9 @@ module _ (f : Netlist) (ends order state choices : List ℕ) (t : Steps f ends o
           rw (getD-take (getD (cell state k) 0 0) (drop 1 (cell state k)) j 0 n, getD-drop 1 (cell state k) j 0, one-add) (queue-colour f state (t .good) k h e j m n)
 
   queue-kept : kind (rowOf f k) ≡ queue → (j : ℕ) → j < 64 →
-      goodByte queue (rowOf f k) (f .colours) (getD (cellWith (appended ma (dropped mb (coloursOf (cell state k))))) 0 0) j (getD (cellWith (appended ma (dropped mb (coloursOf (cell state k))))) j 0) ≡ true
+      goodByte queue (rowOf f k) (f .colours) (getD (cellWith (appended ma (dropped mb (queueColours (cell state k))))) 0 0) j (getD (cellWith (appended ma (dropped mb (queueColours (cell state k))))) j 0) ≡ true
   queue-kept e j l =
-      let cs = coloursOf (cell state k) in
+      let cs = queueColours (cell state k) in
       let n = queue-count (cell state k) (queue-whole f ends order (t .accepted) state (t .good) k h e) in
       let c = queue-count-le f state (t .good) k h e in
       let d = dropped-le mb cs in
@@ -195,7 +195,7 @@ module _ (f : Netlist) (ends order state choices : List ℕ) (t : Steps f ends o
   unfolding goodCell
   cell-kept = rw (next-cell f ends order state choices t k h) (all-of 64 _ (kept (kind (rowOf f k)) refl))
 
-pub good-step : (f : Netlist) (ends order state choices : List ℕ) → Steps f ends order state choices → Good f (next f state choices)
+pub good-step : (f : Netlist) (ends order state choices : List ℕ) → CanStep f ends order state choices → Good f (next f state choices)
 good-step f ends order state choices t = record {
   long = rw (next-length f ends order state choices t) (t .good .long);
   each = λ k h. cell-kept f ends order state choices t k h;

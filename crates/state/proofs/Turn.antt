@@ -11,7 +11,7 @@ use Rattle.record.proofs.Table.{row-at}
 use Rattle.component.specs.Kind.{queue, kindOf}
 use Rattle.component.specs.Netlist.{Netlist, rowOf}
 use Rattle.rules.proofs.Values.{bit-nonzero}
-use Rattle.rules.specs.Rules.{bit, unless, offered, Component, component}
+use Rattle.rules.specs.Rules.{bit, unless, offered, Component, componentWith}
 use Rattle.signals.specs.Signals.{cell}
 use Rattle.state.specs.Step.{cellNext, nextAt}
 use Rattle.state.specs.Updatable.{Moves, Updatable}
@@ -65,7 +65,7 @@ module _ (f : Netlist) {state choices mv st : List ℕ} {k : ℕ} (z : Updatable
   pub cell-movable : kindOf (getD (f .table) (24 * k) 0) ≡ queue → Moves (cell st k) moveA moveB
   cell-movable e = rw (lent-is u h (z .states), field 1 (lit< tt), field 2 (lit< tt)) (z .queues k h (rw kind-at at e))
 
-  pub new-is : (new : List ℕ) → ((r : List ℕ) → new ≡ cellNext (kindOf (getD (f .table) (24 * k) 0)) (component r (cell st k) (getD choices k 0)) moveA moveB) →
+  pub new-is : (new : List ℕ) → ((r : List ℕ) → new ≡ cellNext (kindOf (getD (f .table) (24 * k) 0)) (componentWith r (cell st k) (getD choices k 0)) moveA moveB) →
       new ≡ nextAt f state choices mv k
   unfolding nextAt
   new-is new is = rw (lent-is u h (z .states), kind-at, field 1 (lit< tt), field 2 (lit< tt)) at (is (rowOf f k))

@@ -12,8 +12,8 @@ use Rattle.component.specs.Netlist.{Netlist, rowOf}
 use Rattle.component.specs.Row.{kind, port, capacity}
 use Rattle.rules.specs.Rules.{bit, when, offered, rule}
 use Rattle.signals.specs.Signals.{cell, value, moved, moves}
-use Rattle.state.specs.Cells.{coloursOf}
-use Rattle.state.specs.Step.{dropped, Steps}
+use Rattle.state.specs.Cells.{queueColours}
+use Rattle.state.specs.Step.{dropped, CanStep}
 use Rattle.state.specs.Updatable.{Moves, Updatable}
 use Rattle.state.proofs.Cells.{queue-count}
 use Rattle.state.proofs.Good.{queue-whole}
@@ -35,7 +35,7 @@ offered-cases : (a b m : ℕ) → a ≤ b → (0 < m → a + 1 ≤ b) → a + of
 offered-cases a b zero h f = omega arith
 offered-cases a b (suc m) h f = f (omega arith)
 
-module _ (f : Netlist) (ends order state choices : List ℕ) (t : Steps f ends order state choices) (k : ℕ) (h : k < f .components) (e : kind (rowOf f k) ≡ queue) where
+module _ (f : Netlist) (ends order state choices : List ℕ) (t : CanStep f ends order state choices) (k : ℕ) (h : k < f .components) (e : kind (rowOf f k) ≡ queue) where
   -- what moves out of a queue is its front, and it has one
   pub queue-out : moved f state choices (port (rowOf f k) B) ≡ when (value f state choices (2 * port (rowOf f k) B + 1)) (when (getD (cell state k) 0 0) (suc (getD (cell state k) 1 0)))
   unfolding rule portUse
@@ -65,11 +65,11 @@ module _ (f : Netlist) (ends order state choices : List ℕ) (t : Steps f ends o
         room = offered-cases _ 63 (moved f state choices (port (rowOf f k) A)) (omega (arith, few, q .fits)) (λ l. omega (arith, few, roomy l, c, n));
       }
     where
-      few : length (dropped (moved f state choices (port (rowOf f k) B)) (coloursOf (cell state k))) ≤ length (coloursOf (cell state k))
-      few = dropped-le (moved f state choices (port (rowOf f k) B)) (coloursOf (cell state k))
+      few : length (dropped (moved f state choices (port (rowOf f k) B)) (queueColours (cell state k))) ≤ length (queueColours (cell state k))
+      few = dropped-le (moved f state choices (port (rowOf f k) B)) (queueColours (cell state k))
 
 -- the moves, whatever stands behind them
-pub updatable : (f : Netlist) (ends order state choices : List ℕ) → Steps f ends order state choices → (rest : List ℕ) → Updatable (f .table) (f .components) state choices (moves f state choices ++ rest)
+pub updatable : (f : Netlist) (ends order state choices : List ℕ) → CanStep f ends order state choices → (rest : List ℕ) → Updatable (f .table) (f .components) state choices (moves f state choices ++ rest)
 updatable f ends order state choices t rest = record {
   few = t .accepted .fewRows;
   rows = omega (arith, t .accepted .long);

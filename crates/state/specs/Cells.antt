@@ -4,8 +4,8 @@ use Prim.Native.Nat.{ℕ, zero, suc, _-_}
 use lib.ListN.{length, getD, take, drop, replicate}
 
 -- a queue's colours, front first
-unfoldable pub coloursOf : List ℕ → List ℕ
-coloursOf s = take (getD s 0 0) (drop 1 s)
+unfoldable pub queueColours : List ℕ → List ℕ
+queueColours s = take (getD s 0 0) (drop 1 s)
 
 -- a queue's 64 bytes: the count, the colours front first, zeros
 unfoldable pub cellWith : List ℕ → List ℕ

@@ -10,7 +10,7 @@ use Rattle.reader.specs.Accepted.{AcceptedFabric}
 use Rattle.signals.specs.Signals.{componentAt, moves}
 use Rattle.state.specs.Good.{Good}
 use Rattle.state.specs.Choices.{Allowed}
-use Rattle.state.specs.Cells.{coloursOf, cellWith, cells}
+use Rattle.state.specs.Cells.{queueColours, cellWith, cells}
 
 -- A queue drops its front if its output moved, then appends what came in.
 abbrev pub dropped : ℕ → List ℕ → List ℕ
@@ -23,7 +23,7 @@ appended (suc d) cs = cs ++ (d ∷ [])
 
 -- a component's 64 bytes after a step, where ma and mb moved at its ports A and B
 unfoldable pub cellNext : Kind → Component → ℕ → ℕ → List ℕ
-cellNext queue c ma mb = cellWith (appended ma (dropped mb (coloursOf (c .cell))))
+cellNext queue c ma mb = cellWith (appended ma (dropped mb (queueColours (c .cell))))
 -- A source holds its colour if it was offered and not taken.
 cellNext source c ma mb = unless ma (orElse (held c) (c .choice)) ∷ drop 1 (c .cell)
 -- A sink holds if it took and nothing was offered: it took, and nothing moved.
@@ -49,7 +49,7 @@ unfoldable pub next : Netlist → List ℕ → List ℕ → List ℕ
 next f state choices = stateNext f state choices (moves f state choices)
 
 -- what a step stands on: the reader, the state check and the choice check give it
-pub record Steps (f : Netlist) (ends order state choices : List ℕ) : Type 0 where
+pub record CanStep (f : Netlist) (ends order state choices : List ℕ) : Type 0 where
   pub accepted : AcceptedFabric f ends order
   pub good : Good f state
   pub allowed : Allowed f choices

@@ -8,13 +8,13 @@ use Rattle.component.specs.Kind.{queue, A, B}
 use Rattle.component.specs.Row.{kind, port}
 use Rattle.rules.specs.Rules.{offered}
 use Rattle.signals.specs.Signals.{cell}
-use Rattle.state.specs.Cells.{coloursOf, cellWith}
+use Rattle.state.specs.Cells.{queueColours, cellWith}
 use Rattle.state.specs.Step.{dropped}
 
 -- a queue's bytes
 pub record Queue (s : List ℕ) : Type 0 where
-  pub shape : s ≡ cellWith (coloursOf s)
-  pub fits : length (coloursOf s) ≤ 63
+  pub shape : s ≡ cellWith (queueColours s)
+  pub fits : length (queueColours s) ≤ 63
 
 -- the byte behind a queue's last colour after a step: the colour that came in, or what stood there
 abbrev pub newest : ℕ → ℕ → ℕ
@@ -24,8 +24,8 @@ newest (suc d) old = d
 -- what moves fits them
 pub record Moves (s : List ℕ) (ma mb : ℕ) : Type 0 where
   pub whole : Queue s
-  pub out : 0 < mb → 0 < length (coloursOf s)
-  pub room : length (dropped mb (coloursOf s)) + offered ma ≤ 63
+  pub out : 0 < mb → 0 < length (queueColours s)
+  pub room : length (dropped mb (queueColours s)) + offered ma ≤ 63
 
 -- the sizes fit, and what moves fits each queue
 pub record Updatable (table : List ℕ) (n : ℕ) (state choices mv : List ℕ) : Type 0 where

@@ -6,8 +6,8 @@ ghost use lib.ListN.{length, getD, drop};
 ghost use lib.Seq.{paste};
 ghost use Rattle.component.specs.Kind.{queue, kindOf};
 ghost use Rattle.component.specs.Netlist.{netlist};
-ghost use Rattle.rules.specs.Rules.{unless, offered, orElse, component};
-ghost use Rattle.state.specs.Cells.{coloursOf, cellWith};
+ghost use Rattle.rules.specs.Rules.{unless, offered, orElse, componentWith};
+ghost use Rattle.state.specs.Cells.{queueColours, cellWith};
 ghost use Rattle.state.specs.Step.{dropped, appended, cellNext, stateNext};
 ghost use Rattle.state.specs.Updatable.{Queue, newest, Moves, Updatable};
 use component::Size;
@@ -37,8 +37,8 @@ fn shift(q: &mut [u8])
 // The queue without its front.
 fn drop_front(q: &mut [u8])
     requires { ⌜ Queue (now q) ⌝ }
-    requires { ⌜ 0 < length (coloursOf (now q)) ⌝ }
-    ensures { λ _. ⌜ now (q .exit) ≡ cellWith (drop 1 (coloursOf (now (q .entry)))) ⌝ }
+    requires { ⌜ 0 < length (queueColours (now q)) ⌝ }
+    ensures { λ _. ⌜ now (q .exit) ≡ cellWith (drop 1 (queueColours (now (q .entry)))) ⌝ }
 {
     let b = q[0];
     shift(&mut *q);
@@ -49,8 +49,8 @@ fn drop_front(q: &mut [u8])
 // It drops its front if its output moved.
 fn let_out(q: &mut [u8], mb: u8)
     requires { ⌜ Queue (now q) ⌝ }
-    requires { ⌜ (0 < mb → 0 < length (coloursOf (now q))) ⌝ }
-    ensures { λ _. ⌜ now (q .exit) ≡ cellWith (dropped mb (coloursOf (now (q .entry)))) ⌝ }
+    requires { ⌜ (0 < mb → 0 < length (queueColours (now q))) ⌝ }
+    ensures { λ _. ⌜ now (q .exit) ≡ cellWith (dropped mb (queueColours (now (q .entry)))) ⌝ }
 {
     if 0 < mb {
         drop_front(&mut *q);
@@ -80,8 +80,8 @@ fn colour_or(ma: u8, old: u8) -> u8
 // It appends what came in: without a branch, so that it takes the same time either way.
 fn let_in(q: &mut [u8], ma: u8)
     requires { ⌜ Queue (now q) ⌝ }
-    requires { ⌜ length (coloursOf (now q)) + offered ma ≤ 63 ⌝ }
-    ensures { λ _. ⌜ now (q .exit) ≡ cellWith (appended ma (coloursOf (now (q .entry)))) ⌝ }
+    requires { ⌜ length (queueColours (now q)) + offered ma ≤ 63 ⌝ }
+    ensures { λ _. ⌜ now (q .exit) ≡ cellWith (appended ma (queueColours (now (q .entry)))) ⌝ }
 {
     let b = q[0] + came_in(ma);
     let n = wide(b);
@@ -93,7 +93,7 @@ fn let_in(q: &mut [u8], ma: u8)
 // A queue after a step: it drops its front if its output moved, then appends what came in.
 fn queue_next(q: &mut [u8], ma: u8, mb: u8)
     requires { ⌜ Moves (now q) ma mb ⌝ }
-    ensures { λ _. ⌜ now (q .exit) ≡ cellWith (appended ma (dropped mb (coloursOf (now (q .entry))))) ⌝ }
+    ensures { λ _. ⌜ now (q .exit) ≡ cellWith (appended ma (dropped mb (queueColours (now (q .entry))))) ⌝ }
 {
     let_out(&mut *q, mb);
     let_in(&mut *q, ma);
@@ -133,7 +133,7 @@ fn sink_next(q: &mut [u8], pick: u8, ma: u8)
 fn cell_next(kind: u8, q: &mut [u8], pick: u8, ma: u8, mb: u8)
     requires { ⌜ length (now q) ≡ 64 ⌝ }
     requires { ⌜ (kindOf kind ≡ queue → Moves (now q) ma mb) ⌝ }
-    ensures { λ _. ⌜ ((row : List ℕ) → now (q .exit) ≡ cellNext (kindOf kind) (component row (now (q .entry)) pick) ma mb) ⌝ }
+    ensures { λ _. ⌜ ((row : List ℕ) → now (q .exit) ≡ cellNext (kindOf kind) (componentWith row (now (q .entry)) pick) ma mb) ⌝ }
 {
     match kind {
         0 => source_next(&mut *q, pick, ma),

@@ -20,7 +20,7 @@ use Rattle.component.specs.Row.{kind, port}
 use Rattle.wiring.specs.Ends.{endRow, endPort, onSide, isEnd, unmatched, firstUnmatched}
 use Rattle.wiring.specs.Ports.{marked, found, single}
 use Rattle.wiring.specs.Sound.{Ends}
-use Rattle.wiring.specs.Steps.{signalAt, FoundEnds, Entries}
+use Rattle.wiring.specs.Stages.{signalAt, FoundEnds, Entries}
 use Rattle.wiring.specs.Signals.{isOffer, gives, endOf, dependsAt, dependence}
 
 -- ---- what is found, by the count of ends

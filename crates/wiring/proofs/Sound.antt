@@ -13,7 +13,7 @@ use Rattle.wiring.specs.Ends.{firstUnmatched}
 use Rattle.wiring.specs.Ports.{single}
 use Rattle.wiring.specs.Signals.{dependence}
 use Rattle.wiring.specs.Sound.{Ends}
-use Rattle.wiring.specs.Steps.{wired, FoundEnds, Dependences, Wiring}
+use Rattle.wiring.specs.Stages.{wired, FoundEnds, Dependences, Wiring}
 use Rattle.wiring.specs.declared.Wired.the-variants.{Sound, Unmatched, Circular}
 use Rattle.wiring.proofs.Ends.{first-same, all-ends}
 

@@ -2,4 +2,4 @@ pub mod Ends
 pub mod Signals
 pub mod Sound
 pub mod Ports
-pub mod Steps
+pub mod Stages

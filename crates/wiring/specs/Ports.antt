@@ -14,12 +14,12 @@ useCode input = 32
 useCode output = 16
 useCode unused = 0
 
-abbrev pub bit : Bool → ℕ
-bit true = 1
-bit false = 0
+abbrev pub flag : Bool → ℕ
+flag true = 1
+flag false = 0
 
 abbrev pub needsCode : List Near → ℕ
-needsCode ns = 8 * bit (has ns offerA) + 4 * bit (has ns offerB) + 2 * bit (has ns takeB) + bit (has ns takeC)
+needsCode ns = 8 * flag (has ns offerA) + 4 * flag (has ns offerB) + 2 * flag (has ns takeB) + flag (has ns takeC)
 
 abbrev pub portCode : Kind → Port → ℕ
 portCode k p = useCode (portUse k p) + needsCode (dependsOn k p)

@@ -9,7 +9,7 @@ ghost use Rattle.component.specs.Kind.{kindOf, portOf};
 ghost use Rattle.component.specs.Row.{port, kindNumber};
 ghost use Rattle.wiring.specs.Signals.{dependsAt};
 ghost use Rattle.wiring.specs.Sound.{Ends};
-ghost use Rattle.wiring.specs.Steps.{Kinds, FoundEnds, Entries, Dependences, Wiring};
+ghost use Rattle.wiring.specs.Stages.{Kinds, FoundEnds, Entries, Dependences, Wiring};
 ghost use Rattle.wiring.specs.Ports.{portCode, endCode, slotOf, codeHas, marked, single};
 
 // A line a kind and port: 16 an output, 32 an input, and what the signal there depends on:

@@ -4,7 +4,7 @@ use lib.ListN.{length}
 use native.Mathlib.Omega.{arith}
 use borrow.Author.Needs.{needs}
 use Rattle.refusals.specs.declared.Verdict.{Verdict}
-use Rattle.fabric.specs.Steps.{roomFor}
+use Rattle.fabric.specs.Stages.{roomFor}
 use Rattle.checker.proofs.Files.{opened}
 use Rattle.checker.proofs.Checking.{read-fabric, check-refused, check-zero, check-kept, check-judged, check-constant, check-short, check-verdict, check-number, check-written}
 use Rattle.checker.proofs.check.Statement.{statement}

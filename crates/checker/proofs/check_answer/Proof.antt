@@ -3,7 +3,7 @@ use mathlib.Core.Path.{sym, ap, _∙_}
 use native.Mathlib.Omega.{arith}
 use borrow.Author.Needs.{needs}
 use Rattle.refusals.specs.declared.Verdict.{Verdict}
-use Rattle.fabric.specs.Steps.{roomFor}
+use Rattle.fabric.specs.Stages.{roomFor}
 use Rattle.checker.proofs.Files.{opened}
 use Rattle.checker.proofs.Checking.{read-fabric, check-refused, check-zero, check-judged, check-constant}
 use Rattle.checker.proofs.check_answer.Statement.{statement}

@@ -1,7 +1,7 @@
 use Prim.Native.Nat.{_*_, _/_}
 use mathlib.Core.Path.{sym, ap, _∙_}
 use Rattle.refusals.specs.declared.Verdict.{Verdict}
-use Rattle.fabric.specs.Steps.{roomFor}
+use Rattle.fabric.specs.Stages.{roomFor}
 use Rattle.checker.proofs.Files.{opened, room-accepted, room-space}
 use Rattle.checker.proofs.Checking.{read-fabric, check-refused, check-judged}
 use Rattle.checker.proofs.Bytes.{bytes-kept, bytes-written}

@@ -1,6 +1,6 @@
 use mathlib.Core.Path.{sym, ap, _∙_}
 use Rattle.refusals.specs.declared.Verdict.{Verdict}
-use Rattle.checker.specs.Steps.{orZero}
+use Rattle.checker.specs.Stages.{orZero}
 use Rattle.checker.proofs.Files.{room-accepted}
 use borrow.Author.Needs.{needs}
 use Rattle.checker.proofs.with_room.Statement.{statement}

@@ -12,7 +12,7 @@ use borrow.Author.Count.{below-more}
 use lib.ListN.{length, getD, set}
 use lib.Seq.{getD-set-same}
 use Rattle.order.specs.Graph.{dep, walks}
-use Rattle.order.specs.Places.{Good, Kept, Grown}
+use Rattle.order.specs.Places.{SoundPlaces, Kept, GrownOrder}
 use Rattle.order.proofs.Graph.{walks-zero, walks-suc}
 use Rattle.order.proofs.Places.{room, not-yet, put-good, put-kept}
 use borrow.Fn.Kinds.{In}
@@ -39,7 +39,7 @@ callees t = (wide-reads.Asked, wide-reads.Learnt, visit-below t, visit.Post, put
 
 -- what holds at the loop's head
 record Turn (D : List ℕ) (s : ℕ) (P₀ P O : List ℕ) (c k : ℕ) : Type 0 where
-  pub good : Good D P O c
+  pub good : SoundPlaces D P O c
   pub kept : Kept P₀ P
   pub long : length P ≡ length P₀
   pub below : s < length P
@@ -55,7 +55,7 @@ module _ {D : List ℕ} {s : ℕ} {P₀ P O : List ℕ} {c k : ℕ} (u : Turn D 
       rw (e, ← u .long) (walks-suc (dep D) (length P) (depth - 1) s k (u .below) hk (rw i at w))
 
   -- one more entry of s is visited
-  turn-visit : {d : ℕ} → k < 4 → d ≡ dep D s k → d < length P → {P′ O′ : List ℕ} {c′ : ℕ} → length P′ ≡ length P → Grown D d P P′ O′ c′ → Turn D s P₀ P′ O′ c′ (k + 1)
+  turn-visit : {d : ℕ} → k < 4 → d ≡ dep D s k → d < length P → {P′ O′ : List ℕ} {c′ : ℕ} → length P′ ≡ length P → GrownOrder D d P P′ O′ c′ → Turn D s P₀ P′ O′ c′ (k + 1)
   turn-visit hk i hd {P′} len v = let g = rw i at v in record {
     good = g .good;
     kept = λ x q. g .kept x (u .kept x q);
@@ -79,7 +79,7 @@ module _ {D : List ℕ} {s : ℕ} {P₀ P O : List ℕ} {c k : ℕ} (u : Turn D 
   })
 
   -- all entries of s are in the order, and s is put there
-  turn-put : 4 ≤ k → {P′ O′ : List ℕ} {c′ : ℕ} → c′ ≡ c + 1 → P′ ≡ set P s (c + 1) → O′ ≡ set O c s → Grown D s P₀ P′ O′ c′
+  turn-put : 4 ≤ k → {P′ O′ : List ℕ} {c′ : ℕ} → c′ ≡ c + 1 → P′ ≡ set P s (c + 1) → O′ ≡ set O c s → GrownOrder D s P₀ P′ O′ c′
   turn-put hk ec eP eO = rw (ec, eP, eO) (record {
     good = put-good (u .good) s (u .below) (u .out) (λ j hj hd. u .done j (omega arith) hd);
     kept = λ x q. put-kept (u .good) s (u .below) (u .out) x (u .kept x q);

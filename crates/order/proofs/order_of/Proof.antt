@@ -8,7 +8,7 @@ use borrow.Author.Needs.{needs}
 use lib.ListN.{length, take, replicate}
 use lib.Seq.{length-take-le}
 use Rattle.order.specs.Graph.{dep, hasCircle, Sorted, OrderOf}
-use Rattle.order.specs.Places.{Good}
+use Rattle.order.specs.Places.{SoundPlaces}
 use Rattle.order.proofs.Places.{good-none}
 use Rattle.order.proofs.order_of.Statement.{statement}
 use Rattle.order.proofs.order_of.Tie as tie
@@ -25,7 +25,7 @@ part n = take n (replicate 510 0)
 part-length : (n : ℕ) → n ≤ 510 → length (part n) ≡ n
 part-length n h = length-take-le n (replicate 510 0) h
 
-part-good : (D O : List ℕ) (n : ℕ) → n ≤ 510 → 4 * n ≤ length D → n ≤ length O → Good D (part n) O 0
+part-good : (D O : List ℕ) (n : ℕ) → n ≤ 510 → 4 * n ≤ length D → n ≤ length O → SoundPlaces D (part n) O 0
 part-good D O n h t l = rw (take-replicate n 510 0 h) (good-none D O n t l h)
 
 circle-out : (D : List ℕ) (n : ℕ) (O : List ℕ) → n ≤ 510 → hasCircle (dep D) (length (part n)) ≡ true → OrderOf (dep D) n true O

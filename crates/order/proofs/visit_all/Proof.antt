@@ -10,7 +10,7 @@ use borrow.Author.Needs.{needs}
 use borrow.Author.Count.{below-more}
 use lib.ListN.{length, getD}
 use Rattle.order.specs.Graph.{dep, walks, hasCircle, Sorted}
-use Rattle.order.specs.Places.{Good, Grown}
+use Rattle.order.specs.Places.{SoundPlaces, GrownOrder}
 use Rattle.order.proofs.Graph.{any-has}
 use Rattle.order.proofs.Places.{no-circle, sorted}
 use Rattle.order.proofs.visit_all.Statement.{statement}
@@ -18,14 +18,14 @@ use Rattle.order.proofs.visit_all.Tie as tie
 
 -- what holds at the loop's head
 record Done (D P₀ P O : List ℕ) (c s : ℕ) : Type 0 where
-  pub good : Good D P O c
+  pub good : SoundPlaces D P O c
   pub long : length P ≡ length P₀
   pub all : (x : ℕ) → x < s → 0 < getD P x 0
   pub few : s ≤ length P
 
 module _ {D P₀ P O : List ℕ} {c s : ℕ} (u : Done D P₀ P O c s) where
   -- s is visited
-  done-visit : s < length P → {P′ O′ : List ℕ} {c′ : ℕ} → length P′ ≡ length P → Grown D s P P′ O′ c′ → Done D P₀ P′ O′ c′ (s + 1)
+  done-visit : s < length P → {P′ O′ : List ℕ} {c′ : ℕ} → length P′ ≡ length P → GrownOrder D s P P′ O′ c′ → Done D P₀ P′ O′ c′ (s + 1)
   done-visit h {P′} len g = record {
     good = g .good;
     long = len ∙ u .long;

@@ -1,7 +1,7 @@
 use mathlib.Core.Path.{refl}
 use Prim.Native.Nat.{_+_, _*_}
 use lib.ListN.{getD}
-use Rattle.rules.specs.Rules.{numberOf, bit}
+use Rattle.rules.specs.Rules.{offerNumber, bit}
 use Rattle.rules.proofs.Seen.{source-a, sink-a, queue-a, queue-b, function-a, function-b, fork-a, fork-b, fork-c, join-a, join-b, join-c, switch-a, switch-b, switch-c, merge-a, merge-b, merge-c, last-rule}
 use Rattle.signals.proofs.Channels.{taken, offers, takes}
 use borrow.Author.Needs.{needs}
@@ -229,7 +229,7 @@ returns : tie.Need-returns
 returns c =
     let u = c .before .before .before .before .before .before .pre in
     let p = c .before .before .before .before .before .before .args in
-    offers u 0 (c .before .before .match .keys1) (refl {a = getD (p .signals .now) (2 * p .pa) 0}) (refl {a = getD (p .signals .now) (2 * p .pb) 0}) (refl {a = getD (p .signals .now) (2 * p .pb + 1) 0}) (refl {a = getD (p .signals .now) (2 * p .pc + 1) 0}) (c .before .source-offer .result) _ (c .byte-of-offer .ensures) (source-a (p .row .now) (p .cell .now) (p .pick) (getD (p .signals .now) (2 * p .pa) 0) (getD (p .signals .now) (2 * p .pb) 0) (getD (p .signals .now) (2 * p .pb + 1) 0) (getD (p .signals .now) (2 * p .pc + 1) 0) (numberOf (c .before .source-offer .result)) (c .before .source-offer .ensures))
+    offers u 0 (c .before .before .match .keys1) (refl {a = getD (p .signals .now) (2 * p .pa) 0}) (refl {a = getD (p .signals .now) (2 * p .pb) 0}) (refl {a = getD (p .signals .now) (2 * p .pb + 1) 0}) (refl {a = getD (p .signals .now) (2 * p .pc + 1) 0}) (c .before .source-offer .result) _ (c .byte-of-offer .ensures) (source-a (p .row .now) (p .cell .now) (p .pick) (getD (p .signals .now) (2 * p .pa) 0) (getD (p .signals .now) (2 * p .pb) 0) (getD (p .signals .now) (2 * p .pb + 1) 0) (getD (p .signals .now) (2 * p .pc + 1) 0) (offerNumber (c .before .source-offer .result)) (c .before .source-offer .ensures))
 
 returns-2 : tie.Need-returns-2
 returns-2 c =
@@ -247,7 +247,7 @@ returns-4 : tie.Need-returns-4
 returns-4 c =
     let u = c .before .before .before .before .before .before .pre in
     let p = c .before .before .before .before .before .before .args in
-    offers u 7 (c .before .before .match .keys4) (refl {a = getD (p .signals .now) (2 * p .pa) 0}) (refl {a = getD (p .signals .now) (2 * p .pb) 0}) (refl {a = getD (p .signals .now) (2 * p .pb + 1) 0}) (refl {a = getD (p .signals .now) (2 * p .pc + 1) 0}) (c .before .queue-offer .result) _ (c .byte-of-offer2 .ensures) (queue-b (p .row .now) (p .cell .now) (p .pick) (getD (p .signals .now) (2 * p .pa) 0) (getD (p .signals .now) (2 * p .pb) 0) (getD (p .signals .now) (2 * p .pb + 1) 0) (getD (p .signals .now) (2 * p .pc + 1) 0) (numberOf (c .before .queue-offer .result)) (c .before .queue-offer .ensures))
+    offers u 7 (c .before .before .match .keys4) (refl {a = getD (p .signals .now) (2 * p .pa) 0}) (refl {a = getD (p .signals .now) (2 * p .pb) 0}) (refl {a = getD (p .signals .now) (2 * p .pb + 1) 0}) (refl {a = getD (p .signals .now) (2 * p .pc + 1) 0}) (c .before .queue-offer .result) _ (c .byte-of-offer2 .ensures) (queue-b (p .row .now) (p .cell .now) (p .pick) (getD (p .signals .now) (2 * p .pa) 0) (getD (p .signals .now) (2 * p .pb) 0) (getD (p .signals .now) (2 * p .pb + 1) 0) (getD (p .signals .now) (2 * p .pc + 1) 0) (offerNumber (c .before .queue-offer .result)) (c .before .queue-offer .ensures))
 
 returns-5 : tie.Need-returns-5
 returns-5 c =
@@ -259,7 +259,7 @@ returns-6 : tie.Need-returns-6
 returns-6 c =
     let u = c .before .before .before .before .before .before .before .pre in
     let p = c .before .before .before .before .before .before .before .args in
-    offers u 10 (c .before .before .before .match .keys6) (c .before .before .offer-at .ensures) (refl {a = getD (p .signals .now) (2 * p .pb) 0}) (refl {a = getD (p .signals .now) (2 * p .pb + 1) 0}) (refl {a = getD (p .signals .now) (2 * p .pc + 1) 0}) (c .before .map-from .result) _ (c .byte-of-offer3 .ensures) (function-b (p .row .now) (p .cell .now) (p .pick) (numberOf (c .before .before .offer-at .result)) (getD (p .signals .now) (2 * p .pb) 0) (getD (p .signals .now) (2 * p .pb + 1) 0) (getD (p .signals .now) (2 * p .pc + 1) 0) (numberOf (c .before .map-from .result)) (c .before .map-from .ensures))
+    offers u 10 (c .before .before .before .match .keys6) (c .before .before .offer-at .ensures) (refl {a = getD (p .signals .now) (2 * p .pb) 0}) (refl {a = getD (p .signals .now) (2 * p .pb + 1) 0}) (refl {a = getD (p .signals .now) (2 * p .pc + 1) 0}) (c .before .map-from .result) _ (c .byte-of-offer3 .ensures) (function-b (p .row .now) (p .cell .now) (p .pick) (offerNumber (c .before .before .offer-at .result)) (getD (p .signals .now) (2 * p .pb) 0) (getD (p .signals .now) (2 * p .pb + 1) 0) (getD (p .signals .now) (2 * p .pc + 1) 0) (offerNumber (c .before .map-from .result)) (c .before .map-from .ensures))
 
 returns-7 : tie.Need-returns-7
 returns-7 c =
@@ -271,67 +271,67 @@ returns-8 : tie.Need-returns-8
 returns-8 c =
     let u = c .before .before .before .before .before .before .before .before .before .pre in
     let p = c .before .before .before .before .before .before .before .before .before .args in
-    offers u 13 (c .before .before .before .before .before .match .keys8) (c .before .before .before .before .offer-at2 .ensures) (refl {a = getD (p .signals .now) (2 * p .pb) 0}) (taken (u .atB) (c .before .before .before .take-at4 .result) (c .before .before .before .take-at4 .ensures)) (taken (u .atC) (c .before .before .take-at5 .result) (c .before .before .take-at5 .ensures)) (c .before .fork-offer .result) _ (c .byte-of-offer4 .ensures) (fork-b (p .row .now) (p .cell .now) (p .pick) (numberOf (c .before .before .before .before .offer-at2 .result)) (getD (p .signals .now) (2 * p .pb) 0) (bit (c .before .before .before .take-at4 .result)) (bit (c .before .before .take-at5 .result)) (numberOf (c .before .fork-offer .result)) (c .before .fork-offer .ensures))
+    offers u 13 (c .before .before .before .before .before .match .keys8) (c .before .before .before .before .offer-at2 .ensures) (refl {a = getD (p .signals .now) (2 * p .pb) 0}) (taken (u .atB) (c .before .before .before .take-at4 .result) (c .before .before .before .take-at4 .ensures)) (taken (u .atC) (c .before .before .take-at5 .result) (c .before .before .take-at5 .ensures)) (c .before .fork-offer .result) _ (c .byte-of-offer4 .ensures) (fork-b (p .row .now) (p .cell .now) (p .pick) (offerNumber (c .before .before .before .before .offer-at2 .result)) (getD (p .signals .now) (2 * p .pb) 0) (bit (c .before .before .before .take-at4 .result)) (bit (c .before .before .take-at5 .result)) (offerNumber (c .before .fork-offer .result)) (c .before .fork-offer .ensures))
 
 returns-9 : tie.Need-returns-9
 returns-9 c =
     let u = c .before .before .before .before .before .before .before .before .before .pre in
     let p = c .before .before .before .before .before .before .before .before .before .args in
-    offers u 14 (c .before .before .before .before .before .match .keys9) (c .before .before .before .before .offer-at3 .ensures) (refl {a = getD (p .signals .now) (2 * p .pb) 0}) (taken (u .atB) (c .before .before .before .take-at6 .result) (c .before .before .before .take-at6 .ensures)) (taken (u .atC) (c .before .before .take-at7 .result) (c .before .before .take-at7 .ensures)) (c .before .fork-offer2 .result) _ (c .byte-of-offer5 .ensures) (fork-c (p .row .now) (p .cell .now) (p .pick) (numberOf (c .before .before .before .before .offer-at3 .result)) (getD (p .signals .now) (2 * p .pb) 0) (bit (c .before .before .before .take-at6 .result)) (bit (c .before .before .take-at7 .result)) (numberOf (c .before .fork-offer2 .result)) (c .before .fork-offer2 .ensures))
+    offers u 14 (c .before .before .before .before .before .match .keys9) (c .before .before .before .before .offer-at3 .ensures) (refl {a = getD (p .signals .now) (2 * p .pb) 0}) (taken (u .atB) (c .before .before .before .take-at6 .result) (c .before .before .before .take-at6 .ensures)) (taken (u .atC) (c .before .before .take-at7 .result) (c .before .before .take-at7 .ensures)) (c .before .fork-offer2 .result) _ (c .byte-of-offer5 .ensures) (fork-c (p .row .now) (p .cell .now) (p .pick) (offerNumber (c .before .before .before .before .offer-at3 .result)) (getD (p .signals .now) (2 * p .pb) 0) (bit (c .before .before .before .take-at6 .result)) (bit (c .before .before .take-at7 .result)) (offerNumber (c .before .fork-offer2 .result)) (c .before .fork-offer2 .ensures))
 
 returns-10 : tie.Need-returns-10
 returns-10 c =
     let u = c .before .before .before .before .before .before .before .before .before .pre in
     let p = c .before .before .before .before .before .before .before .before .before .args in
-    takes u 15 (c .before .before .before .before .before .match .keys10) (c .before .before .before .before .offer-at4 .ensures) (c .before .before .before .offer-at5 .ensures) (refl {a = getD (p .signals .now) (2 * p .pb + 1) 0}) (taken (u .atC) (c .before .before .take-at8 .result) (c .before .before .take-at8 .ensures)) (c .before .join-take .result) _ (c .bit-of5 .ensures) (join-a (p .row .now) (p .cell .now) (p .pick) (numberOf (c .before .before .before .before .offer-at4 .result)) (numberOf (c .before .before .before .offer-at5 .result)) (getD (p .signals .now) (2 * p .pb + 1) 0) (bit (c .before .before .take-at8 .result)) (bit (c .before .join-take .result)) (c .before .join-take .ensures))
+    takes u 15 (c .before .before .before .before .before .match .keys10) (c .before .before .before .before .offer-at4 .ensures) (c .before .before .before .offer-at5 .ensures) (refl {a = getD (p .signals .now) (2 * p .pb + 1) 0}) (taken (u .atC) (c .before .before .take-at8 .result) (c .before .before .take-at8 .ensures)) (c .before .join-take .result) _ (c .bit-of5 .ensures) (join-a (p .row .now) (p .cell .now) (p .pick) (offerNumber (c .before .before .before .before .offer-at4 .result)) (offerNumber (c .before .before .before .offer-at5 .result)) (getD (p .signals .now) (2 * p .pb + 1) 0) (bit (c .before .before .take-at8 .result)) (bit (c .before .join-take .result)) (c .before .join-take .ensures))
 
 returns-11 : tie.Need-returns-11
 returns-11 c =
     let u = c .before .before .before .before .before .before .before .before .before .pre in
     let p = c .before .before .before .before .before .before .before .before .before .args in
-    takes u 16 (c .before .before .before .before .before .match .keys11) (c .before .before .before .before .offer-at6 .ensures) (c .before .before .before .offer-at7 .ensures) (refl {a = getD (p .signals .now) (2 * p .pb + 1) 0}) (taken (u .atC) (c .before .before .take-at9 .result) (c .before .before .take-at9 .ensures)) (c .before .join-take2 .result) _ (c .bit-of6 .ensures) (join-b (p .row .now) (p .cell .now) (p .pick) (numberOf (c .before .before .before .before .offer-at6 .result)) (numberOf (c .before .before .before .offer-at7 .result)) (getD (p .signals .now) (2 * p .pb + 1) 0) (bit (c .before .before .take-at9 .result)) (bit (c .before .join-take2 .result)) (c .before .join-take2 .ensures))
+    takes u 16 (c .before .before .before .before .before .match .keys11) (c .before .before .before .before .offer-at6 .ensures) (c .before .before .before .offer-at7 .ensures) (refl {a = getD (p .signals .now) (2 * p .pb + 1) 0}) (taken (u .atC) (c .before .before .take-at9 .result) (c .before .before .take-at9 .ensures)) (c .before .join-take2 .result) _ (c .bit-of6 .ensures) (join-b (p .row .now) (p .cell .now) (p .pick) (offerNumber (c .before .before .before .before .offer-at6 .result)) (offerNumber (c .before .before .before .offer-at7 .result)) (getD (p .signals .now) (2 * p .pb + 1) 0) (bit (c .before .before .take-at9 .result)) (bit (c .before .join-take2 .result)) (c .before .join-take2 .ensures))
 
 returns-12 : tie.Need-returns-12
 returns-12 c =
     let u = c .before .before .before .before .before .before .before .before .pre in
     let p = c .before .before .before .before .before .before .before .before .args in
-    offers u 17 (c .before .before .before .before .match .keys12) (c .before .before .before .offer-at8 .ensures) (c .before .before .offer-at9 .ensures) (refl {a = getD (p .signals .now) (2 * p .pb + 1) 0}) (refl {a = getD (p .signals .now) (2 * p .pc + 1) 0}) (c .before .join-offer .result) _ (c .byte-of-offer6 .ensures) (join-c (p .row .now) (p .cell .now) (p .pick) (numberOf (c .before .before .before .offer-at8 .result)) (numberOf (c .before .before .offer-at9 .result)) (getD (p .signals .now) (2 * p .pb + 1) 0) (getD (p .signals .now) (2 * p .pc + 1) 0) (numberOf (c .before .join-offer .result)) (c .before .join-offer .ensures))
+    offers u 17 (c .before .before .before .before .match .keys12) (c .before .before .before .offer-at8 .ensures) (c .before .before .offer-at9 .ensures) (refl {a = getD (p .signals .now) (2 * p .pb + 1) 0}) (refl {a = getD (p .signals .now) (2 * p .pc + 1) 0}) (c .before .join-offer .result) _ (c .byte-of-offer6 .ensures) (join-c (p .row .now) (p .cell .now) (p .pick) (offerNumber (c .before .before .before .offer-at8 .result)) (offerNumber (c .before .before .offer-at9 .result)) (getD (p .signals .now) (2 * p .pb + 1) 0) (getD (p .signals .now) (2 * p .pc + 1) 0) (offerNumber (c .before .join-offer .result)) (c .before .join-offer .ensures))
 
 returns-13 : tie.Need-returns-13
 returns-13 c =
     let u = c .before .before .before .before .before .before .before .before .before .pre in
     let p = c .before .before .before .before .before .before .before .before .before .args in
-    takes u 18 (c .before .before .before .before .before .match .keys13) (c .before .before .before .before .offer-at10 .ensures) (refl {a = getD (p .signals .now) (2 * p .pb) 0}) (taken (u .atB) (c .before .before .before .take-at10 .result) (c .before .before .before .take-at10 .ensures)) (taken (u .atC) (c .before .before .take-at11 .result) (c .before .before .take-at11 .ensures)) (c .before .switch-take .result) _ (c .bit-of7 .ensures) (switch-a (p .row .now) (p .cell .now) (p .pick) (numberOf (c .before .before .before .before .offer-at10 .result)) (getD (p .signals .now) (2 * p .pb) 0) (bit (c .before .before .before .take-at10 .result)) (bit (c .before .before .take-at11 .result)) (bit (c .before .switch-take .result)) (c .before .switch-take .ensures))
+    takes u 18 (c .before .before .before .before .before .match .keys13) (c .before .before .before .before .offer-at10 .ensures) (refl {a = getD (p .signals .now) (2 * p .pb) 0}) (taken (u .atB) (c .before .before .before .take-at10 .result) (c .before .before .before .take-at10 .ensures)) (taken (u .atC) (c .before .before .take-at11 .result) (c .before .before .take-at11 .ensures)) (c .before .switch-take .result) _ (c .bit-of7 .ensures) (switch-a (p .row .now) (p .cell .now) (p .pick) (offerNumber (c .before .before .before .before .offer-at10 .result)) (getD (p .signals .now) (2 * p .pb) 0) (bit (c .before .before .before .take-at10 .result)) (bit (c .before .before .take-at11 .result)) (bit (c .before .switch-take .result)) (c .before .switch-take .ensures))
 
 returns-14 : tie.Need-returns-14
 returns-14 c =
     let u = c .before .before .before .before .before .before .before .pre in
     let p = c .before .before .before .before .before .before .before .args in
-    offers u 19 (c .before .before .before .match .keys14) (c .before .before .offer-at11 .ensures) (refl {a = getD (p .signals .now) (2 * p .pb) 0}) (refl {a = getD (p .signals .now) (2 * p .pb + 1) 0}) (refl {a = getD (p .signals .now) (2 * p .pc + 1) 0}) (c .before .switch-offer .result) _ (c .byte-of-offer7 .ensures) (switch-b (p .row .now) (p .cell .now) (p .pick) (numberOf (c .before .before .offer-at11 .result)) (getD (p .signals .now) (2 * p .pb) 0) (getD (p .signals .now) (2 * p .pb + 1) 0) (getD (p .signals .now) (2 * p .pc + 1) 0) (numberOf (c .before .switch-offer .result)) (c .before .switch-offer .ensures))
+    offers u 19 (c .before .before .before .match .keys14) (c .before .before .offer-at11 .ensures) (refl {a = getD (p .signals .now) (2 * p .pb) 0}) (refl {a = getD (p .signals .now) (2 * p .pb + 1) 0}) (refl {a = getD (p .signals .now) (2 * p .pc + 1) 0}) (c .before .switch-offer .result) _ (c .byte-of-offer7 .ensures) (switch-b (p .row .now) (p .cell .now) (p .pick) (offerNumber (c .before .before .offer-at11 .result)) (getD (p .signals .now) (2 * p .pb) 0) (getD (p .signals .now) (2 * p .pb + 1) 0) (getD (p .signals .now) (2 * p .pc + 1) 0) (offerNumber (c .before .switch-offer .result)) (c .before .switch-offer .ensures))
 
 returns-15 : tie.Need-returns-15
 returns-15 c =
     let u = c .before .before .before .before .before .before .before .pre in
     let p = c .before .before .before .before .before .before .before .args in
-    offers u 20 (c .before .before .before .match .keys15) (c .before .before .offer-at12 .ensures) (refl {a = getD (p .signals .now) (2 * p .pb) 0}) (refl {a = getD (p .signals .now) (2 * p .pb + 1) 0}) (refl {a = getD (p .signals .now) (2 * p .pc + 1) 0}) (c .before .switch-offer2 .result) _ (c .byte-of-offer8 .ensures) (switch-c (p .row .now) (p .cell .now) (p .pick) (numberOf (c .before .before .offer-at12 .result)) (getD (p .signals .now) (2 * p .pb) 0) (getD (p .signals .now) (2 * p .pb + 1) 0) (getD (p .signals .now) (2 * p .pc + 1) 0) (numberOf (c .before .switch-offer2 .result)) (c .before .switch-offer2 .ensures))
+    offers u 20 (c .before .before .before .match .keys15) (c .before .before .offer-at12 .ensures) (refl {a = getD (p .signals .now) (2 * p .pb) 0}) (refl {a = getD (p .signals .now) (2 * p .pb + 1) 0}) (refl {a = getD (p .signals .now) (2 * p .pc + 1) 0}) (c .before .switch-offer2 .result) _ (c .byte-of-offer8 .ensures) (switch-c (p .row .now) (p .cell .now) (p .pick) (offerNumber (c .before .before .offer-at12 .result)) (getD (p .signals .now) (2 * p .pb) 0) (getD (p .signals .now) (2 * p .pb + 1) 0) (getD (p .signals .now) (2 * p .pc + 1) 0) (offerNumber (c .before .switch-offer2 .result)) (c .before .switch-offer2 .ensures))
 
 returns-16 : tie.Need-returns-16
 returns-16 c =
     let u = c .before .before .before .before .before .before .before .before .before .pre in
     let p = c .before .before .before .before .before .before .before .before .before .args in
-    takes u 21 (c .before .before .before .before .before .match .keys16) (c .before .before .before .before .offer-at13 .ensures) (c .before .before .before .offer-at14 .ensures) (refl {a = getD (p .signals .now) (2 * p .pb + 1) 0}) (taken (u .atC) (c .before .before .take-at12 .result) (c .before .before .take-at12 .ensures)) (c .before .merge-take .result) _ (c .bit-of8 .ensures) (merge-a (p .row .now) (p .cell .now) (p .pick) (numberOf (c .before .before .before .before .offer-at13 .result)) (numberOf (c .before .before .before .offer-at14 .result)) (getD (p .signals .now) (2 * p .pb + 1) 0) (bit (c .before .before .take-at12 .result)) (bit (c .before .merge-take .result)) (c .before .merge-take .ensures))
+    takes u 21 (c .before .before .before .before .before .match .keys16) (c .before .before .before .before .offer-at13 .ensures) (c .before .before .before .offer-at14 .ensures) (refl {a = getD (p .signals .now) (2 * p .pb + 1) 0}) (taken (u .atC) (c .before .before .take-at12 .result) (c .before .before .take-at12 .ensures)) (c .before .merge-take .result) _ (c .bit-of8 .ensures) (merge-a (p .row .now) (p .cell .now) (p .pick) (offerNumber (c .before .before .before .before .offer-at13 .result)) (offerNumber (c .before .before .before .offer-at14 .result)) (getD (p .signals .now) (2 * p .pb + 1) 0) (bit (c .before .before .take-at12 .result)) (bit (c .before .merge-take .result)) (c .before .merge-take .ensures))
 
 returns-17 : tie.Need-returns-17
 returns-17 c =
     let u = c .before .before .before .before .before .before .before .before .before .pre in
     let p = c .before .before .before .before .before .before .before .before .before .args in
-    takes u 22 (c .before .before .before .before .before .match .keys17) (c .before .before .before .before .offer-at15 .ensures) (c .before .before .before .offer-at16 .ensures) (refl {a = getD (p .signals .now) (2 * p .pb + 1) 0}) (taken (u .atC) (c .before .before .take-at13 .result) (c .before .before .take-at13 .ensures)) (c .before .merge-take2 .result) _ (c .bit-of9 .ensures) (merge-b (p .row .now) (p .cell .now) (p .pick) (numberOf (c .before .before .before .before .offer-at15 .result)) (numberOf (c .before .before .before .offer-at16 .result)) (getD (p .signals .now) (2 * p .pb + 1) 0) (bit (c .before .before .take-at13 .result)) (bit (c .before .merge-take2 .result)) (c .before .merge-take2 .ensures))
+    takes u 22 (c .before .before .before .before .before .match .keys17) (c .before .before .before .before .offer-at15 .ensures) (c .before .before .before .offer-at16 .ensures) (refl {a = getD (p .signals .now) (2 * p .pb + 1) 0}) (taken (u .atC) (c .before .before .take-at13 .result) (c .before .before .take-at13 .ensures)) (c .before .merge-take2 .result) _ (c .bit-of9 .ensures) (merge-b (p .row .now) (p .cell .now) (p .pick) (offerNumber (c .before .before .before .before .offer-at15 .result)) (offerNumber (c .before .before .before .offer-at16 .result)) (getD (p .signals .now) (2 * p .pb + 1) 0) (bit (c .before .before .take-at13 .result)) (bit (c .before .merge-take2 .result)) (c .before .merge-take2 .ensures))
 
 returns-18 : tie.Need-returns-18
 returns-18 c =
     let u = c .before .before .before .before .before .before .before .before .pre in
     let p = c .before .before .before .before .before .before .before .before .args in
-    offers u 23 (last-rule _ (u .below) (u .used) (c .before .before .before .before .match .rest .0 .0 .0 .0 .0 .0 .0 .0 .0 .0 .0 .0 .0 .0 .0 .0 .1, c .before .before .before .before .match .rest .0 .0 .0 .0 .0 .0 .0 .0 .0 .0 .0 .0 .0 .0 .0 .1, c .before .before .before .before .match .rest .0 .0 .0 .0 .0 .0 .0 .0 .0 .0 .0 .0 .0 .0 .1, c .before .before .before .before .match .rest .0 .0 .0 .0 .0 .0 .0 .0 .0 .0 .0 .0 .0 .1, c .before .before .before .before .match .rest .0 .0 .0 .0 .0 .0 .0 .0 .0 .0 .0 .0 .1, c .before .before .before .before .match .rest .0 .0 .0 .0 .0 .0 .0 .0 .0 .0 .0 .1, c .before .before .before .before .match .rest .0 .0 .0 .0 .0 .0 .0 .0 .0 .0 .1, c .before .before .before .before .match .rest .0 .0 .0 .0 .0 .0 .0 .0 .0 .1, c .before .before .before .before .match .rest .0 .0 .0 .0 .0 .0 .0 .0 .1, c .before .before .before .before .match .rest .0 .0 .0 .0 .0 .0 .0 .1, c .before .before .before .before .match .rest .0 .0 .0 .0 .0 .0 .1, c .before .before .before .before .match .rest .0 .0 .0 .0 .0 .1, c .before .before .before .before .match .rest .0 .0 .0 .0 .1, c .before .before .before .before .match .rest .0 .0 .0 .1, c .before .before .before .before .match .rest .0 .0 .1, c .before .before .before .before .match .rest .0 .1, c .before .before .before .before .match .rest .1)) (c .before .before .before .offer-at17 .ensures) (c .before .before .offer-at18 .ensures) (refl {a = getD (p .signals .now) (2 * p .pb + 1) 0}) (refl {a = getD (p .signals .now) (2 * p .pc + 1) 0}) (c .before .merge-offer .result) _ (c .byte-of-offer9 .ensures) (merge-c (p .row .now) (p .cell .now) (p .pick) (numberOf (c .before .before .before .offer-at17 .result)) (numberOf (c .before .before .offer-at18 .result)) (getD (p .signals .now) (2 * p .pb + 1) 0) (getD (p .signals .now) (2 * p .pc + 1) 0) (numberOf (c .before .merge-offer .result)) (c .before .merge-offer .ensures))
+    offers u 23 (last-rule _ (u .below) (u .used) (c .before .before .before .before .match .rest .0 .0 .0 .0 .0 .0 .0 .0 .0 .0 .0 .0 .0 .0 .0 .0 .1, c .before .before .before .before .match .rest .0 .0 .0 .0 .0 .0 .0 .0 .0 .0 .0 .0 .0 .0 .0 .1, c .before .before .before .before .match .rest .0 .0 .0 .0 .0 .0 .0 .0 .0 .0 .0 .0 .0 .0 .1, c .before .before .before .before .match .rest .0 .0 .0 .0 .0 .0 .0 .0 .0 .0 .0 .0 .0 .1, c .before .before .before .before .match .rest .0 .0 .0 .0 .0 .0 .0 .0 .0 .0 .0 .0 .1, c .before .before .before .before .match .rest .0 .0 .0 .0 .0 .0 .0 .0 .0 .0 .0 .1, c .before .before .before .before .match .rest .0 .0 .0 .0 .0 .0 .0 .0 .0 .0 .1, c .before .before .before .before .match .rest .0 .0 .0 .0 .0 .0 .0 .0 .0 .1, c .before .before .before .before .match .rest .0 .0 .0 .0 .0 .0 .0 .0 .1, c .before .before .before .before .match .rest .0 .0 .0 .0 .0 .0 .0 .1, c .before .before .before .before .match .rest .0 .0 .0 .0 .0 .0 .1, c .before .before .before .before .match .rest .0 .0 .0 .0 .0 .1, c .before .before .before .before .match .rest .0 .0 .0 .0 .1, c .before .before .before .before .match .rest .0 .0 .0 .1, c .before .before .before .before .match .rest .0 .0 .1, c .before .before .before .before .match .rest .0 .1, c .before .before .before .before .match .rest .1)) (c .before .before .before .offer-at17 .ensures) (c .before .before .offer-at18 .ensures) (refl {a = getD (p .signals .now) (2 * p .pb + 1) 0}) (refl {a = getD (p .signals .now) (2 * p .pc + 1) 0}) (c .before .merge-offer .result) _ (c .byte-of-offer9 .ensures) (merge-c (p .row .now) (p .cell .now) (p .pick) (offerNumber (c .before .before .before .offer-at17 .result)) (offerNumber (c .before .before .offer-at18 .result)) (getD (p .signals .now) (2 * p .pb + 1) 0) (getD (p .signals .now) (2 * p .pc + 1) 0) (offerNumber (c .before .merge-offer .result)) (c .before .merge-offer .ensures))
 
 pub signal-spec : {M : Type 1} → statement M
 signal-spec =

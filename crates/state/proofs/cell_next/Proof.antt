@@ -1,6 +1,6 @@
 use borrow.Author.Needs.{needs}
 use Rattle.component.specs.Kind.{kindOf}
-use Rattle.rules.specs.Rules.{component}
+use Rattle.rules.specs.Rules.{componentWith}
 use Rattle.state.specs.Step.{cellNext}
 use Rattle.state.proofs.Turn.{cell-rest}
 use Rattle.state.proofs.cell_next.Statement.{statement}
@@ -45,7 +45,7 @@ returns-3 c = λ w. rw (c .before .before .before .before .match .keys3) (c .bef
 returns-4 : tie.Need-returns-4
 returns-4 c = λ w.
     let z = c .before .before .args in
-    cell-rest (z .kind) (component w (z .q .now) (z .pick)) (z .ma) (z .mb) (c .match .rest .0 .0 .1) (c .match .rest .0 .1) (c .match .rest .1)
+    cell-rest (z .kind) (componentWith w (z .q .now) (z .pick)) (z .ma) (z .mb) (c .match .rest .0 .0 .1) (c .match .rest .0 .1) (c .match .rest .1)
 
 pub cell-next-spec : {M : Type 1} → statement M
 cell-next-spec =

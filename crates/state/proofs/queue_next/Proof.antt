@@ -1,7 +1,7 @@
 use mathlib.Core.Path.{_≡_}
 use native.Mathlib.Omega.{arith}
 use borrow.Author.Needs.{needs}
-use Rattle.state.specs.Cells.{coloursOf}
+use Rattle.state.specs.Cells.{queueColours}
 use Rattle.state.specs.Step.{dropped}
 use Rattle.state.proofs.Cells.{colours-of-cell, cell-queue}
 use Rattle.state.proofs.queue_next.Statement.{statement}
@@ -17,7 +17,7 @@ let-out-requires c κs = (c .before .before .pre .whole, c .before .before .pre 
 let-in-requires : tie.Need-let-in-requires
 let-in-requires c κs =
     let z = c .before .before .before .before .before .before in
-    let cs = dropped (z .args .mb) (coloursOf (z .args .q .now)) in
+    let cs = dropped (z .args .mb) (queueColours (z .args .q .now)) in
     rw (c .before .before .before .let-out .ensures) (cell-queue cs (omega (arith, z .pre .room)), rw colours-of-cell (z .pre .room))
 
 same-length : tie.Need-same-length
@@ -26,8 +26,8 @@ same-length c = search needs
 returns : tie.Need-returns
 returns c =
     let z = c .before .before .before .before .before .before .before .before .before in
-    let cs = dropped (z .args .mb) (coloursOf (z .args .q .now)) in
-    let e : coloursOf (c .before .before .before .before .before .before .let-out .last .0) ≡ cs = rw (c .before .before .before .before .before .before .let-out .ensures) (colours-of-cell cs) in
+    let cs = dropped (z .args .mb) (queueColours (z .args .q .now)) in
+    let e : queueColours (c .before .before .before .before .before .before .let-out .last .0) ≡ cs = rw (c .before .before .before .before .before .before .let-out .ensures) (colours-of-cell cs) in
     rw (← e) (c .before .before .let-in .ensures)
 
 pub queue-next-spec : {M : Type 1} → statement M

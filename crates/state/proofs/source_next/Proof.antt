@@ -4,7 +4,7 @@ use Prim.Native.Nat.{ℕ, _≤_}
 use native.Mathlib.Omega.{arith}
 use lib.ListN.{getD, drop}
 use borrow.Author.Needs.{needs}
-use Rattle.rules.specs.Rules.{numberOf, unless, orElse}
+use Rattle.rules.specs.Rules.{offerNumber, unless, orElse}
 use Rattle.rules.proofs.Bounds.{unless-le, orElse-le}
 use Rattle.state.proofs.Turn.{set-first, unless-flag}
 use Rattle.state.proofs.source_next.Statement.{statement}
@@ -40,10 +40,10 @@ returns : tie.Need-returns
 returns c =
     let z = c .before .before .before .before .before .before .args in
     let b = getD (z .q .now) 0 0 in
-    let e : numberOf (c .before .next .result .held) ≡ unless (z .ma) (orElse b (z .pick)) = cc (unless-flag (z .ma) (orElse b (z .pick))) in
+    let e : offerNumber (c .before .next .result .held) ≡ unless (z .ma) (orElse b (z .pick)) = cc (unless-flag (z .ma) (orElse b (z .pick))) in
     let h : b ≤ 255 = omega (arith, c .before .before .before .before .slice-known2 .given 0) in
     let p : z .pick ≤ 255 = omega arith in
-    let l : numberOf (c .before .next .result .held) ≤ 255 = rw e (unless-le (z .ma) (orElse b (z .pick)) 255 (orElse-le b (z .pick) 255 h p)) in
+    let l : offerNumber (c .before .next .result .held) ≤ 255 = rw e (unless-le (z .ma) (orElse b (z .pick)) 255 (orElse-le b (z .pick) 255 h p)) in
     set-first (z .q .now) (c .byte-of-offer .result) (omega arith) ∙ ap (λ (v : ℕ). v ∷ drop 1 (z .q .now)) (c .byte-of-offer .ensures l ∙ e)
 
 pub source-next-spec : {M : Type 1} → statement M

@@ -5,7 +5,7 @@ use Rattle.wiring.proofs.Ends.{ends-none, found-at}
 use borrow.Author.Needs.{needs}
 use native.Mathlib.Omega.{arith}
 use Prim.Native.Nat.{_*_, _-_, _≤_, ℕ, _+_}
-use Rattle.wiring.specs.Steps.{FoundEnds}
+use Rattle.wiring.specs.Stages.{FoundEnds}
 use Rattle.wiring.proofs.find_ends.Statement.{statement}
 use Rattle.wiring.proofs.find_ends.Tie as tie
 use Rattle.wiring.proofs.find_ends.Reads as reads

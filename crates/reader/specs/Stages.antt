@@ -1,4 +1,4 @@
--- What the steps of the code come to. It describes the code, and proofs/Facts.antt ties it to the definitions.
+-- What the stages of the code come to. It describes the code, and proofs/Facts.antt ties it to the definitions.
 use mathlib.Core.Path.{_≡_}
 use Prim.Native.Nat.{ℕ, _+_, _*_, _≤_, _<_}
 use mathlib.Core.Bool.{true}
@@ -12,14 +12,14 @@ use Rattle.wiring.specs.declared.Wired.the-variants.{Sound, Unmatched, Circular
 use Rattle.refusals.specs.Refusals.{firstRefusal}
 use Rattle.reader.specs.File.{headerTests, recordTests, coloursIn, channelsIn, componentsIn}
 use Rattle.reader.specs.Reading.{readAs}
-use Rattle.refusals.specs.declared.Refusal.the-variants.{Channel, Circle}
+use Rattle.refusals.specs.declared.Refusal.the-variants.{ChannelEnds, Circle}
 use Rattle.refusals.specs.declared.Verdict.{Verdict}
 use Rattle.refusals.specs.declared.Verdict.the-variants.{Accepted, Refused}
 use Rattle.reader.specs.declared.Reading.{Reading}
 
 abbrev pub wiredVerdict : Wired → Verdict
 wiredVerdict Sound = Accepted
-wiredVerdict (Unmatched x) = Refused (Channel x)
+wiredVerdict (Unmatched x) = Refused (ChannelEnds x)
 wiredVerdict Circular = Refused Circle
 
 -- after the header: C, M and N, or a refusal of 2 to 5

@@ -1,4 +1,4 @@
--- What the steps of the code come to. It describes the code, and proofs/ ties it to the definitions of Calls.antt.
+-- What the stages of the code come to. It describes the code, and proofs/ ties it to the definitions of Calls.antt.
 use mathlib.Core.Path.{_≡_}
 use mathlib.Core.Bool.{Bool}
 use mathlib.Core.List.{List, [], _∷_}
@@ -7,7 +7,7 @@ use lib.ListN.{length}
 use lib.IntN.{ℤ, pos}
 use Rattle.component.specs.Netlist.{Netlist}
 use Rattle.refusals.specs.Refusals.{Test, test}
-use Rattle.refusals.specs.declared.Refusal.the-variants.{Choices}
+use Rattle.refusals.specs.declared.Refusal.the-variants.{ChoiceCount}
 use Rattle.reader.specs.Accepted.{AcceptedFabric}
 use Rattle.plan.specs.Plan.{Planned}
 use Rattle.state.specs.Good.{Good}
@@ -23,7 +23,7 @@ orZero (Refused r) k = pos 0
 
 -- the tests 21, 22, 9 and 10, where the number of choices is wrong or not
 abbrev pub readyTests : Netlist → List ℕ → List ℕ → Bool → List Test
-readyTests f state choices uneven = shortState f (length state) ∷ badState f state ∷ test Choices uneven ∷ wrongChoice f choices ∷ []
+readyTests f state choices uneven = shortState f (length state) ∷ badState f state ∷ test ChoiceCount uneven ∷ wrongChoice f choices ∷ []
 
 -- a plan of an accepted fabric, a good state and allowed choices
 pub record Along (f : Netlist) (plan state choices : List ℕ) : Type 0 where

@@ -1,4 +1,4 @@
--- What the steps of the code come to. It describes the code, and proofs/Sound.antt ties it to the definitions.
+-- What the stages of the code come to. It describes the code, and proofs/Sound.antt ties it to the definitions.
 use mathlib.Core.Path.{_≡_}
 use Prim.Native.Nat.{ℕ, _+_, _*_, _≤_, _<_}
 use mathlib.Core.Bool.{Bool, true, false, cond}
