@@ -7,12 +7,15 @@
  * A state has 64 bytes a component: of a queue its count, then so many colours, front first; of a source 0 or 1 + the colour it holds;
  * of a sink 0, or 1 if it holds; all other bytes 0. The choices of a step are a byte a component: of a source 0 or 1 + a colour it
  * emits, of a sink and a merge 0 or 1, of others 0. A proposal is at most 4,096 terms of 4 bytes: component 7 bits, index 4,
- * multiplier 21 in two's complement, most significant bit first.
+ * multiplier 21 in two's complement, most significant bit first. docs/FORMAT.md has every field, with examples byte by byte.
  *
- * Memory. The host lends the memory and keeps it: no call stores a pointer, allocates or frees. Memory that a call may write
- * overlaps no other memory lent to that call, and nobody else writes memory lent to a call until it ends. A refused call leaves
- * every lent byte as it was; an accepted one leaves the bytes past its result as they were. A pointer whose length is 0 is never
- * read and may be NULL. Any content and any length is allowed; each call does its own checking and ends.
+ * Memory. The host lends the memory and keeps it: no call stores a pointer, allocates or frees. A refused call leaves every lent
+ * byte as it was; an accepted one leaves the bytes past its result as they were. A pointer whose length is 0 is never read and may
+ * be NULL. Any content and any length is allowed; each call does its own checking and ends. The host sees to three things:
+ *
+ *    - memory that a call may write overlaps no other memory lent to that call;
+ *    - nobody else writes memory lent to a call until that call ends;
+ *    - between the calls of a list, fabric and state keep their bytes.
  *
  * Answers. A call returns 0 or the number of its refusal. Its place and the other numbers that it hands back come from sister
  * calls, which take the same input and write nothing; all are 0 where the call is refused, but for the places named below.
@@ -89,10 +92,12 @@ uint32_t fabric_run(const uint8_t *fabric, size_t fabric_len, uint8_t *state, si
 uint64_t fabric_run_place(const uint8_t *fabric, size_t fabric_len, const uint8_t *state, size_t state_len, const uint8_t *choices,
                           size_t choices_len);
 
-/* Checks a proposal. If it is accepted, the sum of weight times n(q,d) over all queues q and colours d, n(q,d) being how many of colour d
- * are in q, is K after every list of start, step and run calls that begins with an accepted start. Weights are signed
- * 64-bit numbers of 8 bytes, lowest first, 8 of them a component: entry 8 q + d is the weight of n(q,d), other entries 0.
- * They take 64 bytes a component, at most 8,192.
+/* Checks a proposal. Only the fabric and the proposal are read, so it may be done at any time. If the proposal is accepted, the sum of
+ * weight times n(q,d) over all queues q and colours d equals K after an accepted start on that fabric and a state, and after every
+ * list of start, step and run calls on them that follows, accepted or refused, provided that fabric and state keep their bytes
+ * between the calls. n(q,d) is how many of the colours in queue q, as many as its count says, are d. Weights are signed 64-bit
+ * numbers of 8 bytes, lowest first, 8 of them a component: entry 8 q + d is the weight of n(q,d), other entries 0. They take 64
+ * bytes a component, at most 8,192.
  * Refusals in this order: 1 2 3 4 5 6 7 8 11 12 13 14 23. */
 uint32_t fabric_check(const uint8_t *fabric, size_t fabric_len, const uint8_t *proposal, size_t proposal_len, uint8_t *weights,
                       size_t weights_len);

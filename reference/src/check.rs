@@ -1,12 +1,12 @@
 //! The check of a proposed sum.
 
 use crate::component::{Kind, MOST_COLOURS};
-use crate::equations::{equation, INDEXES};
-use crate::fabric::{Fabric, TestedFabric};
+use crate::equations::equation;
+use crate::fabric::Fabric;
 use crate::packed::read_file;
 use crate::refusal::Refusal;
 use crate::state::{content, ComponentState};
-use crate::terms::{read_proposal, Term};
+use crate::terms::read_proposal;
 
 /// How many bytes a weight takes, lowest first.
 const WEIGHT: usize = 8;
@@ -28,45 +28,44 @@ pub fn check(file: &[u8], proposal: &[u8], weights: &mut [u8]) -> Result<i64, Re
     Ok(sum.constant)
 }
 
-/// A sum over the queues that every step keeps.
+/// An invariant: a weighted sum over the queues that every step keeps.
 pub struct Sum {
-    /// That of n(q,d) at 8 q + d; 0 where q is no queue.
+    /// Entry 8 times q plus d is the weight of n(q,d), other entries 0.
     pub weights: Vec<i64>,
     pub constant: i64,
 }
 
 impl Sum {
-    /// The sum as it is in a state.
+    /// Weight times n(q,d), added up over all queues and colours; n(q,d) is the count of d among the
+    /// first colours of q, as many as byte 0 of q says.
     pub fn value(&self, states: &[ComponentState]) -> i64 {
-        let by_component = self.weights.as_chunks::<MOST_COLOURS>().0;
-        let weighted = by_component.iter().zip(states).map(|(weights, state)| {
-            let queued = if *weights == [0; MOST_COLOURS] {
-                &[]
-            } else {
-                content(state)
-            };
-            queued.iter().map(|&d| weights[usize::from(d)]).sum::<i64>()
-        });
-        weighted.sum()
+        let mut value = 0;
+        for (entry, weight) in self.weights.iter().enumerate() {
+            let (q, d) = (entry / MOST_COLOURS, entry % MOST_COLOURS);
+            let queued = content(&states[q]).iter();
+            let count = queued.filter(|&&colour| usize::from(colour) == d).count();
+            value += weight * count as i64;
+        }
+        value
     }
 }
 
 /// Refusals 1 to 8 and 11 to 14, in this order.
 pub fn accepted_sum(file: &[u8], proposal: &[u8]) -> Result<Sum, Refusal> {
-    let TestedFabric { fabric, .. } = read_file(file)?;
-    let multipliers = add_equal_terms(&fabric, read_proposal(proposal)?)?;
+    let fabric = read_file(file)?;
     let mut flows = vec![0; MOST_COLOURS * fabric.channels];
     let mut weights = vec![0; MOST_COLOURS * fabric.components.len()];
-    for (number, multiplier) in multipliers.into_iter().enumerate() {
-        let (place, index) = (number / INDEXES, number % INDEXES);
-        let (component, Some(multiplier)) = (&fabric.components[place], multiplier) else {
-            continue;
-        };
-        equation(component, fabric.colours, index, |flow, factor| {
-            flows[flow] += multiplier * factor;
-        });
-        if component.kind == Kind::Queue {
-            weights[MOST_COLOURS * place + index] = multiplier;
+    for (number, term) in read_proposal(proposal)?.enumerate() {
+        let component = fabric.components.get(term.component);
+        let named = component.and_then(|named| equation(named, fabric.colours, term.index));
+        let equation = named.ok_or(Refusal::NoEquation { term: number })?;
+        // A flow cancels if, over all terms, the multiplier times the factor adds up to 0.
+        for (flow, factor) in equation {
+            flows[flow.number()] += term.multiplier * factor;
+        }
+        // The weight of n(q,d) is the sum of the multipliers of the terms that name q and d.
+        if fabric.components[term.component].kind == Kind::Queue {
+            weights[MOST_COLOURS * term.component + term.index] += term.multiplier;
         }
     }
     if let Some(flow) = flows.iter().position(|&total| total != 0) {
@@ -79,38 +78,13 @@ pub fn accepted_sum(file: &[u8], proposal: &[u8]) -> Result<Sum, Refusal> {
     Ok(Sum { weights, constant })
 }
 
-/// Refusal 12, or the multiplier of each equation that is named, at 16 times its component plus
-/// its index.
-fn add_equal_terms(
-    fabric: &Fabric,
-    terms: impl Iterator<Item = Term>,
-) -> Result<Vec<Option<i64>>, Refusal> {
-    let mut multipliers = vec![None; INDEXES * fabric.components.len()];
-    for (place, term) in terms.enumerate() {
-        let Term {
-            component, index, ..
-        } = term;
-        let no_equation = Refusal::NoEquation { term: place };
-        let multiplier = multipliers
-            .get_mut(INDEXES * component + index)
-            .ok_or(no_equation)?;
-        let exists = || {
-            let component = &fabric.components[component];
-            equation(component, fabric.colours, index, |_, _| {})
-        };
-        if multiplier.is_none() && !exists() {
-            return Err(no_equation);
-        }
-        *multiplier.get_or_insert(0) += term.multiplier;
-    }
-    Ok(multipliers)
-}
-
-/// The sum of weight times filling.
+/// K is the sum of weight times n0.
 fn constant(fabric: &Fabric, weights: &[i64]) -> i64 {
-    let by_component = weights.as_chunks::<MOST_COLOURS>().0;
-    let fillings = fabric.components.iter().zip(by_component);
-    fillings
-        .map(|(queue, weights)| weights[usize::from(queue.fill_colour)] * i64::from(queue.filling))
+    let queues = fabric.components.iter().enumerate();
+    queues
+        .map(|(q, queue)| {
+            let weight = weights[MOST_COLOURS * q + usize::from(queue.fill_colour)];
+            weight * i64::from(queue.filling)
+        })
         .sum()
 }

@@ -3,6 +3,7 @@
 use crate::component::{Component, Kind};
 use crate::state::holds_allowed;
 
+/// Source 0 or 1 + an emitted colour; sink and merge 0 or 1; others 0.
 pub fn is_allowed(component: &Component, choice: u8) -> bool {
     match component.kind {
         Kind::Source => holds_allowed(component, choice),

@@ -113,6 +113,7 @@ impl Component {
             && self.filling_is_good(colours)
     }
 
+    /// A used port is below M; unused fields are 0.
     fn ports_are_good(&self, channels: usize) -> bool {
         let count = self.kind.input_count() + self.kind.output_count();
         let (used, unused) = self.ports.split_at(count);
@@ -120,6 +121,7 @@ impl Component {
             && unused.iter().all(|&port| port == 0)
     }
 
+    /// Mask bits for colours from C on are 0; a source emits at least one.
     fn mask_is_good(&self, colours: usize) -> bool {
         if !self.kind.uses_mask() {
             return self.mask == 0;
@@ -129,6 +131,7 @@ impl Component {
         u32::from(self.mask) & beyond == 0 && emits_or_switches
     }
 
+    /// Capacity 1..63, filling 0..capacity; the fill colour is below C, and 0 where the filling is 0.
     fn filling_is_good(&self, colours: usize) -> bool {
         if self.kind != Kind::Queue {
             return self.capacity == 0 && self.filling == 0 && self.fill_colour == 0;
@@ -140,8 +143,7 @@ impl Component {
     }
 }
 
-/// An unused map is 0; in a used one the entries of the colours there are name such colours,
-/// and all others are 0.
+/// Map entries are below C; map entries for colours from C on are 0.
 fn map_is_good(map: &[u8; MOST_COLOURS], used: bool, colours: usize) -> bool {
     if !used {
         return *map == [0; MOST_COLOURS];

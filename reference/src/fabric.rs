@@ -1,7 +1,7 @@
 //! A fabric, and the tests that a file and an open table share.
 
 use crate::channel_ends::lowest_faulty_channel;
-use crate::circle::{walk, Rule, Walked};
+use crate::circle::hold_circle;
 use crate::component::{Component, MOST_COLOURS};
 use crate::refusal::Refusal;
 
@@ -15,19 +15,13 @@ pub struct Fabric {
     pub components: Vec<Component>,
 }
 
-/// A fabric that passed all tests, and an order of its rules that follows the dependences.
-pub struct TestedFabric {
-    pub fabric: Fabric,
-    pub order: Vec<Rule>,
-}
-
 impl Fabric {
     /// Refusals 6, 7 and 8, in this order. A component that cannot even be read is `None`.
     pub fn tested(
         colours: usize,
         channels: usize,
         read: impl ExactSizeIterator<Item = Option<Component>>,
-    ) -> Result<TestedFabric, Refusal> {
+    ) -> Result<Fabric, Refusal> {
         let mut components = Vec::with_capacity(read.len());
         for (place, component) in read.enumerate() {
             match component {
@@ -40,16 +34,14 @@ impl Fabric {
         if let Some(channel) = lowest_faulty_channel(&components, channels) {
             return Err(Refusal::ChannelEnds { channel });
         }
-        let Walked { order, closing } = walk(&components);
-        if !closing.is_empty() {
+        if hold_circle(&components) {
             return Err(Refusal::Circle);
         }
-        let fabric = Fabric {
+        Ok(Fabric {
             colours,
             channels,
             components,
-        };
-        Ok(TestedFabric { fabric, order })
+        })
     }
 }
 

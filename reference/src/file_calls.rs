@@ -1,6 +1,5 @@
 //! The calls on files: unpack and pack. A refused call writes nothing.
 
-use crate::fabric::TestedFabric;
 use crate::open_table::{read_table, write_table, ROW};
 use crate::packed::{file_length, read_file, write_file};
 use crate::refusal::Refusal;
@@ -14,7 +13,7 @@ pub struct Unpacked {
 
 /// Writes the open table of a packed fabric.
 pub fn unpack(file: &[u8], table: &mut [u8]) -> Result<Unpacked, Refusal> {
-    let TestedFabric { fabric, .. } = read_file(file)?;
+    let fabric = read_file(file)?;
     let rows = table
         .get_mut(..ROW * fabric.components.len())
         .ok_or(Refusal::ResultSpace)?;
@@ -27,7 +26,7 @@ pub fn unpack(file: &[u8], table: &mut [u8]) -> Result<Unpacked, Refusal> {
 
 /// Writes the packed fabric of an open table.
 pub fn pack(colours: u64, channels: u64, table: &[u8], file: &mut [u8]) -> Result<(), Refusal> {
-    let TestedFabric { fabric, .. } = read_table(colours, channels, table)?;
+    let fabric = read_table(colours, channels, table)?;
     let packed = file
         .get_mut(..file_length(fabric.components.len()))
         .ok_or(Refusal::ResultSpace)?;

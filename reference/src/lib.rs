@@ -9,6 +9,7 @@ pub mod check;
 pub mod choices;
 pub mod circle;
 pub mod component;
+pub mod dependences;
 pub mod equations;
 pub mod fabric;
 pub mod file_calls;
@@ -16,11 +17,11 @@ pub mod listing;
 pub mod open_table;
 pub mod packed;
 pub mod refusal;
+pub mod rules;
 pub mod signals;
 pub mod state;
 pub mod state_calls;
 pub mod terms;
-pub mod values;
 
 pub mod null_space;
 pub mod panels;
@@ -28,6 +29,7 @@ pub mod random;
 pub mod random_fabric;
 pub mod random_proposal;
 pub mod random_state;
+pub mod random_wiring;
 pub mod samples;
 
 #[cfg(test)]

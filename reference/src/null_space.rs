@@ -44,20 +44,14 @@ pub fn null_space(fabric: &Fabric) -> Vec<Vec<Term>> {
 }
 
 fn one_equation(fabric: &Fabric, number: usize) -> Option<Combination> {
-    let mut flows = Vec::new();
     let component = &fabric.components[number / INDEXES];
-    let exists = equation(
-        component,
-        fabric.colours,
-        number % INDEXES,
-        |flow, factor| {
-            flows.push((flow, factor));
-        },
-    );
-    let multipliers = vec![(number, 1)];
-    exists.then(|| Combination {
-        flows: collected(flows),
-        multipliers,
+    let equation = equation(component, fabric.colours, number % INDEXES)?;
+    let flows = equation
+        .into_iter()
+        .map(|(flow, factor)| (flow.number(), factor));
+    Some(Combination {
+        flows: collected(flows.collect()),
+        multipliers: vec![(number, 1)],
     })
 }
 

@@ -1,13 +1,13 @@
 //! The open table: a row of 24 bytes a component, a byte a field.
 
 use crate::component::{Component, Kind, MOST_COLOURS};
-use crate::fabric::{test_ranges, Fabric, TestedFabric};
+use crate::fabric::{test_ranges, Fabric};
 use crate::refusal::Refusal;
 
 pub const ROW: usize = 24;
 
 /// Refusals 4, 3, 6, 7 and 8, in this order.
-pub fn read_table(colours: u64, channels: u64, table: &[u8]) -> Result<TestedFabric, Refusal> {
+pub fn read_table(colours: u64, channels: u64, table: &[u8]) -> Result<Fabric, Refusal> {
     let (rows, []) = table.as_chunks() else {
         return Err(Refusal::Length);
     };

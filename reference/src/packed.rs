@@ -1,7 +1,7 @@
 //! The packed fabric: a header of 4 bytes, then a record of 13 bytes a component.
 
 use crate::component::{Component, Kind};
-use crate::fabric::{test_ranges, Fabric, TestedFabric};
+use crate::fabric::{test_ranges, Fabric};
 use crate::refusal::Refusal;
 
 pub const HEADER: usize = 4;
@@ -13,7 +13,7 @@ const EDITION: u8 = 1;
 pub const CHECK: usize = 3;
 
 /// Refusals 1 to 8, in this order.
-pub fn read_file(file: &[u8]) -> Result<TestedFabric, Refusal> {
+pub fn read_file(file: &[u8]) -> Result<Fabric, Refusal> {
     let [first, components, channels, _, rest @ ..] = file else {
         return Err(Refusal::UnderHeader);
     };

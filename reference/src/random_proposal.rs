@@ -21,7 +21,7 @@ impl Equations {
     pub fn of(fabric: &Fabric) -> Equations {
         let exists = |&(component, index): &Name| {
             let component = &fabric.components[component];
-            equation(component, fabric.colours, index, |_, _| {})
+            equation(component, fabric.colours, index).is_some()
         };
         let numbers = 0..INDEXES * fabric.components.len();
         let names = numbers.map(|number| (number / INDEXES, number % INDEXES));

@@ -2,22 +2,39 @@
 
 #[derive(Clone, Copy, PartialEq, Eq, Debug)]
 pub enum Refusal {
+    /// Under 4 bytes.
     UnderHeader,
+    /// Edition or the 0 bit wrong.
     Edition,
+    /// N, M or (pack) C outside its range.
     Range,
+    /// Length not 4+13N; in pack not a multiple of 24.
     Length,
+    /// The bytes do not add up to 0.
     ByteSum,
+    /// A field, or a row's kind above 7 (lowest component).
     Field { component: usize },
+    /// A channel's ends (lowest channel).
     ChannelEnds { channel: usize },
+    /// A circle.
     Circle,
+    /// Choices not N long; in run, no multiple of N.
     ChoiceCount,
+    /// A choice (lowest offset).
     Choice { offset: usize },
+    /// Proposal length no multiple of 4, or over 16,384.
     ProposalLength,
+    /// No such component or equation (first such term, from 0).
     NoEquation { term: usize },
+    /// A flow left (8 times channel plus colour, lowest).
     FlowLeft { flow: usize },
+    /// All weights 0.
     NoWeight,
+    /// State shorter than 64N.
     StateShort,
+    /// State not good (lowest component).
     State { component: usize },
+    /// Result space short.
     ResultSpace,
 }
 

@@ -104,7 +104,7 @@ pub fn looped_queues(count: usize) -> Fabric {
     }
 }
 
-/// A source, functions in a row and a sink: the deepest walk there is.
+/// A source, functions in a row and a sink.
 pub fn function_row(count: usize) -> Fabric {
     let last = count as u8 - 2;
     let functions = (0..last).map(|a| Component::new(Kind::Function, [a, a + 1, 0]));

@@ -1,66 +1,39 @@
-//! The two signals of a channel, and which signals the rule of each of them reads.
+//! The signals of all channels in one step, by rounds of the rules.
 
-use crate::component::{Component, Kind};
+use crate::fabric::Fabric;
+use crate::rules::apply_rules;
+use crate::state::ComponentState;
 
-#[derive(Clone, Copy, PartialEq, Eq, Debug)]
-pub enum Signal {
-    /// None or a colour: irdy with data.
-    Offer(u8),
-    /// Yes or no: trdy.
-    Take(u8),
+/// Channel x has offer(x), none or a colour, and take(x), yes or no.
+#[derive(Clone, Copy, Default, PartialEq, Eq, Debug)]
+pub struct Channel {
+    /// irdy with data.
+    pub offer: Option<u8>,
+    /// trdy.
+    pub take: bool,
 }
 
-impl Signal {
-    /// As many as there are signals of 256 channels.
-    pub const COUNT: usize = 512;
-
-    /// A number of its own below `COUNT` for each signal.
-    pub fn index(self) -> usize {
-        match self {
-            Signal::Offer(channel) => 2 * usize::from(channel),
-            Signal::Take(channel) => 2 * usize::from(channel) + 1,
-        }
-    }
-
-    pub fn channel(self) -> usize {
-        self.index() / 2
+impl Channel {
+    /// A transfer happens where offer is a colour and take is yes.
+    pub fn transfer(self) -> Option<u8> {
+        self.offer.filter(|_| self.take)
     }
 }
 
-/// Hands each signal that the component gives to `rule`, with the signals it depends on.
-pub fn rules(component: &Component, mut rule: impl FnMut(Signal, &[Signal])) {
-    use Signal::{Offer, Take};
-    let [a, b, c] = component.ports;
-    match component.kind {
-        Kind::Source => rule(Offer(a), &[]),
-        Kind::Sink => rule(Take(a), &[]),
-        Kind::Queue => {
-            rule(Offer(b), &[]);
-            rule(Take(a), &[]);
+/// Begins with no offers and no takes, and applies every rule, round after round, until a round
+/// changes nothing: then all rules hold. A signal keeps its value from the round after all that it
+/// depends on keep theirs, so without a circle 2M + 1 rounds are enough.
+pub fn signals(fabric: &Fabric, states: &[ComponentState], choices: &[u8]) -> Vec<Channel> {
+    let mut channels = vec![Channel::default(); fabric.channels];
+    for _round in 0..=2 * fabric.channels {
+        let before = channels.clone();
+        let given = states.iter().zip(choices);
+        for (component, (state, &choice)) in fabric.components.iter().zip(given) {
+            apply_rules(component, state, choice, &mut channels);
         }
-        Kind::Function => {
-            rule(Offer(b), &[Offer(a)]);
-            rule(Take(a), &[Take(b)]);
-        }
-        Kind::Fork => {
-            rule(Offer(b), &[Offer(a), Take(c)]);
-            rule(Offer(c), &[Offer(a), Take(b)]);
-            rule(Take(a), &[Take(b), Take(c)]);
-        }
-        Kind::Join => {
-            rule(Offer(c), &[Offer(a), Offer(b)]);
-            rule(Take(a), &[Take(c), Offer(b)]);
-            rule(Take(b), &[Take(c), Offer(a)]);
-        }
-        Kind::Switch => {
-            rule(Offer(b), &[Offer(a)]);
-            rule(Offer(c), &[Offer(a)]);
-            rule(Take(a), &[Offer(a), Take(b), Take(c)]);
-        }
-        Kind::Merge => {
-            rule(Offer(c), &[Offer(a), Offer(b)]);
-            rule(Take(a), &[Offer(a), Offer(b), Take(c)]);
-            rule(Take(b), &[Offer(a), Offer(b), Take(c)]);
+        if channels == before {
+            return channels;
         }
     }
+    panic!("the dependences hold a circle");
 }

@@ -2,7 +2,7 @@
 
 use crate::component::{Component, Kind, MOST_COLOURS};
 use crate::fabric::Fabric;
-use crate::values::Channels;
+use crate::signals::Channel;
 
 pub const COMPONENT_STATE: usize = 64;
 
@@ -10,12 +10,9 @@ pub const COMPONENT_STATE: usize = 64;
 /// or 1 while a sink holds. All else is 0.
 pub type ComponentState = [u8; COMPONENT_STATE];
 
-/// The filling of a queue, and nothing held.
+/// Start writes fillings and nothing held.
 pub fn start_state(component: &Component) -> ComponentState {
-    let mut state = [0; COMPONENT_STATE];
-    state[0] = component.filling;
-    state[1..][..usize::from(component.filling)].fill(component.fill_colour);
-    state
+    queue_state(&vec![component.fill_colour; usize::from(component.filling)])
 }
 
 pub fn lowest_bad_state(fabric: &Fabric, states: &[ComponentState]) -> Option<usize> {
@@ -23,6 +20,7 @@ pub fn lowest_bad_state(fabric: &Fabric, states: &[ComponentState]) -> Option<us
     pairs.position(|(component, state)| !is_good(component, fabric.colours, state))
 }
 
+/// Counts are at most capacity, colours below C and held colours emitted; all else is 0.
 fn is_good(component: &Component, colours: usize, state: &ComponentState) -> bool {
     let [first, rest @ ..] = state;
     let all_0 = |bytes: &[u8]| bytes == &[0; COMPONENT_STATE][..bytes.len()];
@@ -53,37 +51,36 @@ pub fn byte_of(colour: Option<u8>) -> u8 {
     colour.map_or(0, |colour| colour + 1)
 }
 
-pub fn front(queue: &ComponentState) -> Option<u8> {
-    (queue[0] > 0).then_some(queue[1])
-}
-
 /// The colours in a queue, front first.
 pub fn content(queue: &ComponentState) -> &[u8] {
     &queue[1..][..usize::from(queue[0])]
 }
 
-/// What the transfers of a step make of a component's state.
-pub fn advance(component: &Component, state: &mut ComponentState, channels: &Channels) {
-    let [a, b, _] = component.ports.map(usize::from);
-    match component.kind {
-        Kind::Source => state[0] = byte_of(channels[a].offer.filter(|_| !channels[a].take)),
-        Kind::Sink => state[0] = u8::from(channels[a].take && channels[a].offer.is_none()),
-        Kind::Queue => {
-            if channels[b].transfer().is_some() {
-                drop_front(state);
-            }
-            if let Some(colour) = channels[a].transfer() {
-                state[0] += 1;
-                state[usize::from(state[0])] = colour;
-            }
-        }
-        _ => {}
-    }
+fn queue_state(colours: &[u8]) -> ComponentState {
+    let mut state = [0; COMPONENT_STATE];
+    state[0] = colours.len() as u8;
+    state[1..][..colours.len()].copy_from_slice(colours);
+    state
 }
 
-fn drop_front(queue: &mut ComponentState) {
-    let last = usize::from(queue[0]);
-    queue.copy_within(2..last + 1, 1);
-    queue[last] = 0;
-    queue[0] -= 1;
+/// What the transfers of a step make of a component's state.
+pub fn advance(component: &Component, state: &mut ComponentState, channels: &[Channel]) {
+    let [a, b, _] = component.ports.map(usize::from);
+    match component.kind {
+        // A source holds its colour if it was offered and not taken.
+        Kind::Source => state[0] = byte_of(channels[a].offer.filter(|_| !channels[a].take)),
+        // A sink holds if it took and nothing was offered.
+        Kind::Sink => state[0] = u8::from(channels[a].take && channels[a].offer.is_none()),
+        // A queue drops its front if its output moved, then appends what came in.
+        Kind::Queue => {
+            let mut colours = content(state).to_vec();
+            if channels[b].transfer().is_some() {
+                colours.remove(0);
+            }
+            colours.extend(channels[a].transfer());
+            *state = queue_state(&colours);
+        }
+        // The others keep no state.
+        _ => {}
+    }
 }

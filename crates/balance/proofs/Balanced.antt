@@ -8,20 +8,20 @@ use lib.Dec.{ltb}
 use lib.ListN.{length, getD, take, drop}
 use Rattle.component.specs.Kind.{Kind, source, sink, queue, function, fork, join, switch, merge, Port, A, B, C, Use, input, output, unused, portUse}
 use Rattle.component.specs.Row.{kind, port, firstMap, secondMap, masked}
-use Rattle.component.specs.Netlist.{Netlist, rowOf}
+use Rattle.netlist.specs.Netlist.{Netlist, rowOf}
 use Rattle.wiring.specs.Signals.{offerA, offerB, takeB, takeC}
 use Rattle.rules.specs.Rules.{when, offered, orElse, rule}
-use Rattle.signals.specs.Signals.{cell, componentAt, near, value, moved}
-use Rattle.state.specs.Good.{emitted}
-use Rattle.state.specs.Cells.{queueColours}
+use Rattle.cells.specs.Cells.{cell, queueColours}
+use Rattle.signals.specs.Signals.{componentAt, near, value, moved}
+use Rattle.cells.specs.Good.{emitted}
 use Rattle.state.specs.Step.{cellNext, appended, dropped, next, CanStep}
-use Rattle.state.proofs.Cells.{colours-of-cell}
-use Rattle.state.proofs.Good.{and-right, cell-long, source-held}
-use Rattle.state.proofs.Choices.{source-choice}
+use Rattle.cells.proofs.Cells.{colours-of-cell}
+use Rattle.cells.proofs.Good.{and-right, cell-long, source-held}
+use Rattle.cells.proofs.Choices.{source-choice}
 use Rattle.state.proofs.Transfers.{out-moves, in-moves}
 use Rattle.state.proofs.Updatable.{when-open, queue-out, filled}
 use Rattle.state.proofs.Step.{next-cell}
-use Rattle.balance.specs.Counts.{counts}
+use Rattle.cells.specs.Counts.{counts}
 use Rattle.balance.specs.Balance.{Balanced}
 use Rattle.balance.proofs.Moves.{mapped-one, mapped-two, mapped-swap, join-both, switch-both, merge-one}
 use Rattle.balance.proofs.Counts.{Front, count-next}

@@ -6,18 +6,18 @@ use mathlib.Core.List.{List}
 use Prim.Native.Nat.{ℕ, zero, suc, _+_, _-_, _≤_, _<_}
 use native.Mathlib.Omega.{arith}
 use lib.Dec.{ltb, eqb, eqb·zero-suc, eqb·suc-suc}
-use lib.IntN.{+ℤ-comm, ℤ, pos, _+ℤ_, _-ℤ_}
+use lib.IntN.{+ℤ-comm, pos, _+ℤ_, _-ℤ_}
 use borrow.Author.Tests.{ltb-true, eqb-true, eq-eqb, ne-eqb, not-true}
 use Rattle.component.specs.Kind.{Kind, source, sink, queue, function, fork, join, switch, merge, Port, A, B, C, isQueue}
 use Rattle.component.specs.Row.{kind, port, firstMap, secondMap, masked}
-use Rattle.component.specs.Netlist.{Netlist, rowOf}
+use Rattle.netlist.specs.Netlist.{Netlist, rowOf}
 use Rattle.rules.specs.Rules.{bit, offered, when, unless, mapped, toB}
 use Rattle.signals.specs.Signals.{moved}
 use Rattle.state.specs.Step.{next, CanStep}
-use Rattle.state.proofs.Good.{and-left, and-right}
+use Rattle.cells.proofs.Good.{and-left, and-right}
 use Rattle.state.proofs.Bounds.{moved-le}
 use Rattle.equations.specs.Equations.{flow, mappedTo, allOf, less, side, hasIndex, hasEquation, factor}
-use Rattle.balance.specs.Counts.{counts}
+use Rattle.cells.specs.Counts.{counts}
 use Rattle.balance.specs.Balance.{Balanced, transfer}
 use Rattle.flows.specs.Steps.{flowChange, countChange, Holds}
 use Rattle.balance.proofs.Sums.{total, Amounts, amounts-part, amounts-less, amounts-even, amounts-when, amounts-cond, grown-less, still}

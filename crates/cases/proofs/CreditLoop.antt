@@ -12,13 +12,13 @@ use Rattle.record.specs.Table.{openTable, records}
 use Rattle.record.proofs.Table.{length-rows}
 use Rattle.component.specs.Kind.{kindOf, portOf, portUse, usesFirstMap, usesSecondMap, usesMask, isSource, isQueue}
 use Rattle.component.specs.Row.{rowOk}
-use Rattle.component.specs.Netlist.{netlist}
+use Rattle.netlist.specs.Netlist.{netlist, sized}
 use Rattle.wiring.specs.Ends.{firstUnmatched}
 use Rattle.wiring.specs.Signals.{dependsOn, nearOf, endOf, dependence}
 use Rattle.wiring.specs.Stages.{Kinds}
 use Rattle.reader.specs.File.{headerFields, firstBadRecord}
-use Rattle.reader.specs.Reading.{reading}
-use Rattle.reader.specs.Accepted.{AcceptedFabric, ReadOf}
+use Rattle.reader.specs.Reading.{reading, ReadOf}
+use Rattle.netlist.specs.Accepted.{AcceptedFabric}
 use Rattle.reader.specs.Stages.{Unpacking}
 use Rattle.reader.specs.declared.Reading.{Reading}
 use Rattle.reader.specs.declared.Reading.the-variants.{Fabric}
@@ -37,7 +37,7 @@ unfolding creditFile creditTable packedFile headerBytes records recordBytes
 credit-length = refl
 
 -- it is accepted: C=1, M=6, N=6
-pub credit-reads : reading creditFile ≡ Fabric 1 6 6
+pub credit-reads : reading creditFile ≡ Fabric (sized 1 6 6)
 unfolding creditFile creditTable packedFile headerBytes headerFields records recordBytes recordRow recordPad openTable reading firstBadRecord firstUnmatched endOf dependence dependsOn nearOf least count any walks hasCircle rowOk kindOf portOf portUse usesFirstMap usesSecondMap usesMask isSource isQueue
 credit-reads = refl
 
@@ -45,9 +45,9 @@ credit-reads = refl
 -- all that an accepted fabric gives, of what `read` lays down for it
 pub credit-accepted : (before after ends order : List ℕ) (answer : Reading) → ReadOf creditFile before after answer ends order
     → AcceptedFabric (netlist 1 6 6 (openTable creditFile 6)) ends order
-credit-accepted before after ends order answer r = r .facts 1 6 6 credit-reads
+credit-accepted before after ends order answer r = r .facts (sized 1 6 6) credit-reads
 
-pub credit-unpacking : Unpacking 1 6 6 creditFile (openTable creditFile 6)
+pub credit-unpacking : Unpacking (sized 1 6 6) creditFile (openTable creditFile 6)
 credit-unpacking = record { few = omega arith; fewColours = omega arith; fewChannels = omega arith; long = credit-length; is = refl }
 
 pub credit-kinds : Kinds (openTable creditFile 6) 6

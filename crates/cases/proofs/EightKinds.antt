@@ -11,10 +11,11 @@ use Rattle.wiring.specs.Ends.{firstUnmatched}
 use Rattle.wiring.specs.Signals.{dependsOn, nearOf, endOf, dependence}
 use Rattle.reader.specs.File.{headerFields, firstBadRecord}
 use Rattle.reader.specs.Reading.{reading}
+use Rattle.netlist.specs.Netlist.{sized}
 use Rattle.reader.specs.declared.Reading.the-variants.{Fabric}
 use Rattle.fabric.specs.PackedFile.{headerBytes, packedFile}
 use Rattle.cases.specs.EightKinds.{eightTable, eightFile}
 
-pub eight-reads : reading eightFile ≡ Fabric 2 10 9
+pub eight-reads : reading eightFile ≡ Fabric (sized 2 10 9)
 unfolding eightFile eightTable packedFile headerBytes headerFields records recordBytes recordRow recordPad openTable reading firstBadRecord firstUnmatched endOf dependence dependsOn nearOf least count any walks hasCircle rowOk kindOf portOf portUse usesFirstMap usesSecondMap usesMask isSource isQueue
 eight-reads = refl

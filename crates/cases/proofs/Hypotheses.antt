@@ -9,30 +9,31 @@ use Rattle.digits.specs.UpTo.{upTo}
 use Rattle.record.specs.Table.{openTable, records}
 use Rattle.record.specs.Record.{recordRow, recordBytes}
 use Rattle.component.specs.Kind.{kindOf}
-use Rattle.component.specs.Netlist.{Netlist, netlist}
-use Rattle.reader.specs.Accepted.{AcceptedFabric, ReadOf}
+use Rattle.netlist.specs.Netlist.{Netlist, netlist, sized}
+use Rattle.netlist.specs.Accepted.{AcceptedFabric}
+use Rattle.reader.specs.Reading.{ReadOf}
 use Rattle.reader.specs.declared.Reading.{Reading}
 use Rattle.plan.specs.Plan.{planned}
 use Rattle.plan.proofs.Plan.{is-planned}
 use Rattle.fabric.specs.PackedFile.{headerBytes, packedFile}
 use Rattle.signals.specs.Signals.{moved, moves}
 use Rattle.signals.specs.Channels.{Ready}
-use Rattle.state.specs.Choices.{goodChoice, choiceAt, badChoice}
-use Rattle.state.specs.Start.{started}
+use Rattle.cells.specs.Choices.{goodChoice, choiceAt, badChoice}
+use Rattle.cells.specs.Start.{started}
 use Rattle.state.specs.Step.{next, CanStep}
 use Rattle.state.specs.Updatable.{Updatable}
 use Rattle.state.proofs.Bounds.{steps-ready}
-use Rattle.state.proofs.Choices.{no-bad-choice}
-use Rattle.state.proofs.Start.{good-start}
+use Rattle.cells.proofs.Choices.{no-bad-choice}
+use Rattle.cells.proofs.Start.{good-start}
 use Rattle.state.proofs.Updatable.{updatable}
 use Rattle.start.specs.Startable.{Startable}
 use Rattle.start.proofs.Startable.{startable}
 use Rattle.flows.specs.Steps.{Holds}
 use Rattle.flows.specs.Verdict.{ReadFabric}
 use Rattle.balance.specs.Balance.{transfer}
-use Rattle.balance.specs.Counts.{counts}
+use Rattle.cells.specs.Counts.{counts}
 use Rattle.balance.proofs.Holds.{holds}
-use Rattle.checker.proofs.Checking.{read-fabric}
+use Rattle.checking.proofs.Checking.{read-fabric}
 use Rattle.cases.specs.CreditLoop.{creditTable, creditFile}
 use Rattle.cases.specs.EightKinds.{eightTable, eightFile}
 use Rattle.cases.proofs.CreditLoop.{credit-accepted}
@@ -85,4 +86,4 @@ eight-choices = refl
 pub eight-steps : (before after ends order : List ℕ) (answer : Reading) → ReadOf eightFile before after answer ends order → (state : List ℕ) → 576 ≤ length state
     → CanStep (netlist 2 10 9 (openTable eightFile 9)) ends order (started (netlist 2 10 9 (openTable eightFile 9)) state) eightChoices
 eight-steps before after ends order answer r state l =
-    steps-met (netlist 2 10 9 (openTable eightFile 9)) ends order (r .facts 2 10 9 eight-reads) eightChoices refl eight-choices state l
+    steps-met (netlist 2 10 9 (openTable eightFile 9)) ends order (r .facts (sized 2 10 9) eight-reads) eightChoices refl eight-choices state l

@@ -11,22 +11,23 @@ use Rattle.component.specs.Kind.{kindOf, portOf, portUse, usesFirstMap, usesSec
 use Rattle.component.specs.Row.{rowOk}
 use Rattle.wiring.specs.Ends.{firstUnmatched}
 use Rattle.wiring.specs.Signals.{dependsOn, nearOf, endOf, dependence}
-use Rattle.reader.specs.File.{headerFields, firstBadRow, firstBadRecord}
+use Rattle.reader.specs.File.{headerFields, netlistIn, firstBadRow, firstBadRecord}
 use Rattle.fabric.specs.PackedFile.{headerBytes, packedFile}
 use Rattle.fabric.specs.Calls.{packed}
 use Rattle.rules.specs.Rules.{rule}
 use Rattle.signals.specs.Signals.{ruleOf, value, moved, moves}
-use Rattle.state.specs.Cells.{queueColours, cellWith, cells}
-use Rattle.state.specs.Choices.{goodChoice, choiceAt, badChoice}
-use Rattle.state.specs.Good.{goodByte, all, goodCell, badComponent}
-use Rattle.state.specs.Start.{startCell, startAt, started}
+use Rattle.cells.specs.Cells.{queueColours, cellWith, cells}
+use Rattle.cells.specs.Choices.{goodChoice, choiceAt, badChoice}
+use Rattle.cells.specs.Good.{goodByte, all, goodCell, badComponent}
+use Rattle.cells.specs.Start.{startCell, startAt, started}
 use Rattle.state.specs.Step.{cellNext, nextAt, stateNext, next}
 use Rattle.equations.specs.Equations.{side, hasIndex, hasEquation, factor}
 use Rattle.flows.specs.Terms.{component, index, multiplier}
 use Rattle.flows.specs.Flows.{flowSum, weight, entry, acceptedSum, constant}
 use Rattle.flows.specs.Verdict.{badTerm, isLeft, isWeight, constantBy, tableBy}
 use Rattle.digits.specs.UpTo.{upTo}
-use Rattle.checker.specs.Calls.{netlistIn, startVerdict, stateAfterStart, stepVerdict, stateAfterStep, movesAfterStep, checkVerdict, checkConstant, weightsAfterCheck}
+use Rattle.stepping.specs.Calls.{startVerdict, stateAfterStart, stepVerdict, stateAfterStep, movesAfterStep}
+use Rattle.checking.specs.Check.{checkVerdict, checkConstant, weightsAfterCheck}
 use Rattle.lines.specs.Decimal.{spelled, decimal}
 use Rattle.lines.specs.Listing.{weightLine, weightLines, sumLine, textBy, listingOf, listing}
 use Rattle.cases.specs.CreditLoop.{creditTable, creditFile, forkIntoJoin}

@@ -6,8 +6,9 @@ use lib.IntN.{ℤ, pos}
 use Rattle.refusals.specs.Refusals.{numberOf, placeOf}
 use Rattle.refusals.specs.declared.Verdict.{Verdict}
 use Rattle.fabric.specs.Calls.{packed}
-use Rattle.balance.specs.Counts.{counts}
-use Rattle.checker.specs.Calls.{stateAfterStart, stepVerdict, stateAfterStep, movesAfterStep, checkVerdict, checkConstant, weightsAfterCheck}
+use Rattle.cells.specs.Counts.{counts}
+use Rattle.stepping.specs.Calls.{stateAfterStart, stepVerdict, stateAfterStep, movesAfterStep}
+use Rattle.checking.specs.Check.{checkVerdict, checkConstant, weightsAfterCheck}
 use Rattle.lines.specs.Decimal.{digit}
 use Rattle.lines.specs.Listing.{listing}
 use Rattle.cases.specs.CreditLoop.{creditFile, forkIntoJoin}
@@ -66,7 +67,7 @@ four = 4 ∷ 0 ∷ 0 ∷ 1 ∷ 10 ∷ 0 ∷ 0 ∷ 1 ∷ 2 ∷ 0 ∷ 0 ∷ 1 ∷ 
 abbrev sourceOn : List ℕ
 sourceOn = 1 ∷ 0 ∷ 0 ∷ 0 ∷ 0 ∷ 0 ∷ []
 
-abbrev five : List ℕ
+abbrev pub five : List ℕ
 five = four ++ 7 ∷ 0 ∷ 0 ∷ 1 ∷ []
 
 abbrev zeros : ℕ → List ℤ

@@ -1,4 +1,3 @@
 pub mod Kind
 pub mod Row
 pub mod Facts
-pub mod Netlist

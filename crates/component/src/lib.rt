@@ -96,10 +96,3 @@ pub fn row_ok(f: [u8; 24], colours: u8, channels: u8) -> bool
         & filling_ok(kind == 2, f[21], f[22])
         & fits_below((kind == 2) & (0 < f[22]), f[23], colours)
 }
-
-// The numbers of a fabric's header.
-pub struct Size {
-    pub colours: usize,
-    pub channels: usize,
-    pub components: usize,
-}

@@ -1,2 +1,3 @@
-pub mod Numbers
 pub mod Agree
+pub mod Numbers
+pub mod Queues

@@ -7,7 +7,7 @@ use lib.Dec.{ltb, eqb}
 use lib.IntN.{ℤ, pos, _-ℤ_}
 use Rattle.component.specs.Kind.{Kind, source, sink, queue, function, fork, join, switch, merge, A, B, C}
 use Rattle.component.specs.Row.{kind, port, firstMap, secondMap, masked}
-use Rattle.component.specs.Netlist.{Netlist, rowOf}
+use Rattle.netlist.specs.Netlist.{Netlist, rowOf}
 
 -- the factor of each L(x,d): 1 or -1 as it stands there, the sum where it stands there twice, and 0 where it does not
 abbrev pub Side : Type 0

@@ -1,14 +1,18 @@
-// The equation of a component and an index, by its flows.
+// The equation that a term names by component and index: its flows, or refusal 12.
 ghost use mathlib.Core.Path.{_≡_};
 ghost use Prim.Native.Nat.{_+_, _*_, _≤_, _<_, _^_};
 ghost use lib.ListN.{length};
-ghost use Rattle.equations.specs.Numbers.{bitOf, sourceFlows, queueFlows, mappedFlows, switchFlows, mergeFlows, equationOf, equationAt};
+ghost use Rattle.equations.specs.Numbers.{missing, bitOf, sourceFlows, queueFlows, mappedFlows, switchFlows, mergeFlows, lowEquation, highEquation, equationOf, equationAt, equationNamed, equationVerdict};
 ghost use Rattle.component.specs.Kind.{kindOf};
+ghost use Rattle.netlist.specs.Netlist.{netlistOf};
+use netlist::Size;
+use refusals::Refusal;
+use refusals::Verdict;
 
 // The left side of an equation, each flow L(x,d) by its number 8x + d.
 pub enum Equation {
-    // There is no such equation.
-    Missing,
+    // There is no such equation: refusal 12, with the number of the term that names it.
+    Missing(Refusal),
     // L
     One(usize),
     // L - L
@@ -40,35 +44,42 @@ fn bit_of(mask: usize, d: usize) -> bool
     (mask >> (7 - d)) % 2 == 1
 }
 
-fn source_flows(a: usize, mask: usize, colours: usize, d: usize) -> Equation
+// 12: term k names no equation.
+fn missing(term: usize) -> Equation
+    ensures { λ r. ⌜ r ≡ missing term ⌝ }
+{
+    Equation::Missing(Refusal::NoEquation(term))
+}
+
+fn source_flows(a: usize, mask: usize, colours: usize, d: usize, term: usize) -> Equation
     requires { ⌜ (a < 256) × (d < 8) ⌝ }
-    ensures { λ r. ⌜ r ≡ sourceFlows a mask colours d ⌝ }
+    ensures { λ r. ⌜ r ≡ sourceFlows a mask colours d term ⌝ }
 {
     if d < colours {
         if bit_of(mask, d) {
-            Equation::Missing
+            missing(term)
         } else {
             Equation::One(8 * a + d)
         }
     } else {
-        Equation::Missing
+        missing(term)
     }
 }
 
-fn queue_flows(a: usize, b: usize, colours: usize, d: usize) -> Equation
+fn queue_flows(a: usize, b: usize, colours: usize, d: usize, term: usize) -> Equation
     requires { ⌜ (a < 256) × (b < 256) × (d < 8) ⌝ }
-    ensures { λ r. ⌜ r ≡ queueFlows a b colours d ⌝ }
+    ensures { λ r. ⌜ r ≡ queueFlows a b colours d term ⌝ }
 {
     if d < colours {
         Equation::Two(8 * b + d, 8 * a + d)
     } else {
-        Equation::Missing
+        missing(term)
     }
 }
 
-fn mapped_flows(out: usize, a: usize, map: usize, colours: usize, e: usize) -> Equation
+fn mapped_flows(out: usize, a: usize, map: usize, colours: usize, e: usize, term: usize) -> Equation
     requires { ⌜ (out < 256) × (a < 256) × (e < 8) ⌝ }
-    ensures { λ r. ⌜ r ≡ mappedFlows out a map colours e ⌝ }
+    ensures { λ r. ⌜ r ≡ mappedFlows out a map colours e term ⌝ }
 {
     if e < colours {
         Equation::Mapped {
@@ -78,13 +89,13 @@ fn mapped_flows(out: usize, a: usize, map: usize, colours: usize, e: usize) -> E
             to: e,
         }
     } else {
-        Equation::Missing
+        missing(term)
     }
 }
 
-fn switch_flows(out: usize, a: usize, goes: bool, colours: usize, d: usize) -> Equation
+fn switch_flows(out: usize, a: usize, goes: bool, colours: usize, d: usize, term: usize) -> Equation
     requires { ⌜ (out < 256) × (a < 256) × (d < 8) ⌝ }
-    ensures { λ r. ⌜ r ≡ switchFlows out a goes colours d ⌝ }
+    ensures { λ r. ⌜ r ≡ switchFlows out a goes colours d term ⌝ }
 {
     if d < colours {
         if goes {
@@ -93,18 +104,82 @@ fn switch_flows(out: usize, a: usize, goes: bool, colours: usize, d: usize) -> E
             Equation::One(8 * out + d)
         }
     } else {
-        Equation::Missing
+        missing(term)
     }
 }
 
-fn merge_flows(a: usize, b: usize, c: usize, colours: usize, d: usize) -> Equation
+fn merge_flows(a: usize, b: usize, c: usize, colours: usize, d: usize, term: usize) -> Equation
     requires { ⌜ (a < 256) × (b < 256) × (c < 256) × (d < 8) ⌝ }
-    ensures { λ r. ⌜ r ≡ mergeFlows a b c colours d ⌝ }
+    ensures { λ r. ⌜ r ≡ mergeFlows a b c colours d term ⌝ }
 {
     if d < colours {
         Equation::Three(8 * c + d, 8 * a + d, 8 * b + d)
     } else {
-        Equation::Missing
+        missing(term)
+    }
+}
+
+// The indexes 0 to 7 of each kind.
+fn low_equation(
+    kind: usize,
+    a: usize,
+    b: usize,
+    c: usize,
+    mask: usize,
+    at: usize,
+    colours: usize,
+    i: usize,
+    term: usize,
+) -> Equation
+    requires { ⌜ (a < 256) × (b < 256) × (c < 256) × (at < 2 ^ 32) × (i < 8) ⌝ }
+    ensures { λ r. ⌜ r ≡ lowEquation (kindOf kind) a b c mask at colours i term ⌝ }
+{
+    match kind {
+        // source
+        0 => source_flows(a, mask, colours, i, term),
+        // sink
+        1 => missing(term),
+        // queue
+        2 => queue_flows(a, b, colours, i, term),
+        // function
+        3 => mapped_flows(b, a, at + 4, colours, i, term),
+        // fork
+        4 => mapped_flows(b, a, at + 4, colours, i, term),
+        // join
+        5 => mapped_flows(c, a, at + 4, colours, i, term),
+        // switch
+        6 => switch_flows(b, a, bit_of(mask, i), colours, i, term),
+        // merge
+        _ => merge_flows(a, b, c, colours, i, term),
+    }
+}
+
+// The indexes 8 to 15: a fork's and a switch's for their other output, and a join's 8.
+fn high_equation(
+    kind: usize,
+    a: usize,
+    b: usize,
+    c: usize,
+    mask: usize,
+    at: usize,
+    colours: usize,
+    i: usize,
+    term: usize,
+) -> Equation
+    requires { ⌜ (a < 256) × (b < 256) × (c < 256) × (at < 2 ^ 32) × (8 ≤ i) × (i < 16) ⌝ }
+    ensures { λ r. ⌜ r ≡ highEquation (kindOf kind) a b c mask at colours i term ⌝ }
+{
+    match kind {
+        // fork
+        4 => mapped_flows(c, a, at + 12, colours, i - 8, term),
+        // join
+        5 => match i {
+            8 => Equation::All(8 * a, 8 * b),
+            _ => missing(term),
+        },
+        // switch
+        6 => switch_flows(c, a, !bit_of(mask, i - 8), colours, i - 8, term),
+        _ => missing(term),
     }
 }
 
@@ -118,63 +193,58 @@ fn equation_of(
     at: usize,
     colours: usize,
     i: usize,
+    term: usize,
 ) -> Equation
     requires { ⌜ (a < 256) × (b < 256) × (c < 256) × (at < 2 ^ 32) ⌝ }
-    ensures { λ r. ⌜ r ≡ equationOf (kindOf kind) a b c mask at colours i ⌝ }
+    ensures { λ r. ⌜ r ≡ equationOf (kindOf kind) a b c mask at colours i term ⌝ }
 {
-    match kind {
-        // source
-        0 => match i {
-            0..=7 => source_flows(a, mask, colours, i),
-            _ => Equation::Missing,
-        },
-        // sink
-        1 => Equation::Missing,
-        // queue
-        2 => match i {
-            0..=7 => queue_flows(a, b, colours, i),
-            _ => Equation::Missing,
-        },
-        // function
-        3 => match i {
-            0..=7 => mapped_flows(b, a, at + 4, colours, i),
-            _ => Equation::Missing,
-        },
-        // fork
-        4 => match i {
-            0..=7 => mapped_flows(b, a, at + 4, colours, i),
-            8..=15 => mapped_flows(c, a, at + 12, colours, i - 8),
-            _ => Equation::Missing,
-        },
-        // join
-        5 => match i {
-            0..=7 => mapped_flows(c, a, at + 4, colours, i),
-            8 => Equation::All(8 * a, 8 * b),
-            _ => Equation::Missing,
-        },
-        // switch
-        6 => match i {
-            0..=7 => switch_flows(b, a, bit_of(mask, i), colours, i),
-            8..=15 => switch_flows(c, a, !bit_of(mask, i - 8), colours, i - 8),
-            _ => Equation::Missing,
-        },
-        // merge
-        _ => match i {
-            0..=7 => merge_flows(a, b, c, colours, i),
-            _ => Equation::Missing,
-        },
+    match i {
+        0..=7 => low_equation(kind, a, b, c, mask, at, colours, i, term),
+        8..=15 => high_equation(kind, a, b, c, mask, at, colours, i, term),
+        _ => missing(term),
     }
 }
 
-// The equation of index `i` of the component whose row is at `at`, or that there is none.
-pub fn equation_at(table: &[u8], at: usize, colours: usize, i: usize) -> Equation
+// The equation of index `i` of the component whose row is at `at`.
+fn equation_at(table: &[u8], at: usize, colours: usize, i: usize, term: usize) -> Equation
     requires { ⌜ (at + 24 ≤ length (now table)) × (at < 2 ^ 32) ⌝ }
-    ensures { λ r. ⌜ r ≡ equationAt (now (table .entry)) at colours i ⌝ }
+    ensures { λ r. ⌜ r ≡ equationAt (now (table .entry)) at colours i term ⌝ }
 {
     let kind = wide(table[at]);
     let a = wide(table[at + 1]);
     let b = wide(table[at + 2]);
     let c = wide(table[at + 3]);
     let mask = wide(table[at + 20]);
-    equation_of(kind, a, b, c, mask, at, colours, i)
+    equation_of(kind, a, b, c, mask, at, colours, i, term)
+}
+
+// The equation of component `q` and index `i` that a term names.
+pub fn equation_named(table: &[u8], size: Size, q: usize, i: usize, term: usize) -> Equation
+    requires { ⌜ (size .components ≤ 128) × (24 * size .components ≤ length (now table)) ⌝ }
+    ensures { λ r. ⌜ r ≡ equationNamed (netlistOf size (now (table .entry))) q i term ⌝ }
+{
+    if q < size.components {
+        equation_at(table, 24 * q, size.colours, i, term)
+    } else {
+        missing(term)
+    }
+}
+
+// Refusal 12 where there is none.
+pub fn verdict_on(e: Equation) -> Verdict
+    ensures { λ r. ⌜ r ≡ equationVerdict e ⌝ }
+{
+    match e {
+        Equation::Missing(r) => Verdict::Refused(r),
+        Equation::One(_) => Verdict::Accepted,
+        Equation::Two(_, _) => Verdict::Accepted,
+        Equation::Three(_, _, _) => Verdict::Accepted,
+        Equation::Mapped {
+            plus: _,
+            from: _,
+            map: _,
+            to: _,
+        } => Verdict::Accepted,
+        Equation::All(_, _) => Verdict::Accepted,
+    }
 }

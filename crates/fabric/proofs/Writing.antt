@@ -1,10 +1,10 @@
 -- What pack comes to. Assumes nothing.
 use mathlib.Core.Path.{_≡_, ap, sym, _∙_}
-use Prim.Native.Nat.{ℕ, _+_, _-_, _*_, _/_, _%_, _≤_, _<_}
+use Prim.Native.Nat.{ℕ, _+_, _*_, _/_, _%_, _≤_, _<_}
 use native.Mathlib.Omega.{arith}
 use mathlib.Core.Bool.{Bool, true, false, not, _||_, true≢false}
 use mathlib.Core.List.{List, [], _∷_, _++_}
-use lib.ListN.{length}
+use lib.ListN.{length, drop}
 use lib.Dec.{ltb, eqb}
 use borrow.Author.Tests.{ne-eqb, eq-eqb, lt-ltb, le-ltb, eqb-true, not-false, ltb-false}
 use Rattle.digits.proofs.Least.{least-before}
@@ -13,16 +13,18 @@ use Rattle.component.specs.Row.{rowOk}
 use Rattle.component.proofs.Facts.{row-parts, kind-le}
 use Rattle.wiring.specs.Stages.{Kinds, Wiring}
 use Rattle.wiring.specs.declared.Wired.{Wired}
-use Rattle.refusals.specs.Refusals.{Test, test, firstRefusal}
+use Rattle.refusals.specs.Refusals.{Test, test, firstRefusal, kept}
 use Rattle.reader.specs.File.{badRow, firstBadRow, wireTests}
-use Rattle.fabric.specs.Calls.{packed, fileAfter, packedInto}
-use Rattle.fabric.specs.Stages.{roomFor, tableVerdict}
+use Rattle.fabric.specs.PackedFile.{packedFile}
+use Rattle.fabric.specs.Calls.{packed, packedInto}
+use Rattle.fabric.specs.Stages.{tableVerdict}
+use Rattle.refusals.specs.Room.{roomFor}
 use Rattle.reader.specs.Stages.{wiredVerdict}
 use Rattle.refusals.specs.declared.Refusal.the-variants.{WrongLength, CountRange, BadField, ResultSpace}
 use Rattle.refusals.specs.declared.Verdict.{Verdict}
 use Rattle.refusals.specs.declared.Verdict.the-variants.{Accepted, Refused}
-use Rattle.refusals.proofs.Refusals.{andThen, refusal-append, cond-accepted, then-accepted}
-use Rattle.fabric.proofs.Unpacked.{space-last}
+use Rattle.refusals.proofs.Refusals.{cond-accepted}
+use Rattle.refusals.proofs.Room.{room-last, last-accepted}
 use Rattle.reader.proofs.Tests.{wire-tests, or-false}
 
 -- ---- the rows
@@ -94,7 +96,7 @@ module _ (colours channels : ℕ) (table : List ℕ) (space : ℕ) where
         let last : List Test = test ResultSpace (ltb space (4 + 13 * n)) ∷ [] in
         let rest : List Test = test (BadField (firstBadRow colours channels table n)) (ltb (firstBadRow colours channels table n) n) ∷ wireTests table n channels in
         let passed : firstRefusal (rest ++ last) ≡ packed colours channels table space = rw (eq-eqb (length table % 24) 0 even, h) in
-        er ∙ space-last v space (4 + 13 * n) ∙ ap (λ (x : Verdict). andThen x (firstRefusal last)) ev ∙ sym (refusal-append rest last) ∙ passed
+        er ∙ ap (λ (x : Verdict). roomFor x space (4 + 13 * n)) ev ∙ room-last rest space (4 + 13 * n) ∙ passed
 
   -- an accepted table
   pub record PackFacts : Type 0 where
@@ -111,15 +113,16 @@ module _ (colours channels : ℕ) (table : List ℕ) (space : ℕ) where
       let rest : List Test = test (BadField (firstBadRow colours channels table n)) (ltb (firstBadRow colours channels table n) n) ∷ wireTests table n channels in
       let s₁ = cond-accepted WrongLength (not (eqb (length table % 24) 0)) _ e in
       let s₂ = cond-accepted CountRange (outside colours channels n) (firstRefusal (rest ++ last)) (s₁ .1) in
-      let s₃ = then-accepted (firstRefusal rest) (firstRefusal last) (sym (refusal-append rest last) ∙ s₂ .1) in
-      let s₄ = cond-accepted ResultSpace (ltb space (4 + 13 * n)) Accepted (s₃ .1) in
+      let s₃ = last-accepted rest space (4 + 13 * n) (s₂ .1) in
       record {
         even = eqb-true (length table % 24) 0 (not-false _ (s₁ .0));
         inside = inside colours channels n (s₂ .0);
         verdict = s₃ .0;
-        room = ltb-false space (4 + 13 * n) (s₄ .0);
+        room = s₃ .1;
       }
 
-pub file-of : (colours channels : ℕ) (table file : List ℕ) (v : Verdict) → v ≡ packed colours channels table (length file) → fileAfter v colours channels table file ≡ packedInto colours channels table file
+pub file-of : (colours channels : ℕ) (table file : List ℕ) (v : Verdict) → v ≡ packed colours channels table (length file)
+    → kept v (packedFile colours channels table (length table / 24) ++ drop (4 + 13 * (length table / 24)) file) file ≡ packedInto colours channels table file
 unfolding packedInto
-file-of colours channels table file v e = ap (λ (x : Verdict). fileAfter x colours channels table file) e
+file-of colours channels table file v e =
+    ap (λ (x : Verdict). kept x (packedFile colours channels table (length table / 24) ++ drop (4 + 13 * (length table / 24)) file) file) e

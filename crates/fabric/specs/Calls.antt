@@ -7,11 +7,10 @@ use lib.Dec.{ltb, eqb}
 use Rattle.reader.specs.Reading.{readAs, reading}
 use Rattle.fabric.specs.PackedFile.{packedFile}
 use Rattle.record.specs.Table.{openTable}
-use Rattle.refusals.specs.Refusals.{Test, test, firstRefusal}
-use Rattle.reader.specs.File.{headerFields, coloursIn, componentsIn, channelsIn, firstBadRow, wireTests, fileTests}
+use Rattle.refusals.specs.Refusals.{Test, test, firstRefusal, kept}
+use Rattle.reader.specs.File.{headerFields, componentsIn, sizeIn, firstBadRow, wireTests, fileTests}
 use Rattle.refusals.specs.declared.Refusal.the-variants.{CountRange, WrongLength, BadField, ResultSpace}
 use Rattle.refusals.specs.declared.Verdict.{Verdict}
-use Rattle.refusals.specs.declared.Verdict.the-variants.{Accepted, Refused}
 use Rattle.reader.specs.declared.Reading.{Reading}
 use Rattle.reader.specs.declared.Reading.the-variants.{Fabric, Rejected}
 
@@ -20,11 +19,11 @@ abbrev pub unpackTests : List ℕ → ℕ → List Test
 unpackTests file space = fileTests file ++ (test ResultSpace (ltb space (24 * componentsIn (headerFields file))) ∷ [])
 
 unfoldable pub unpacked : List ℕ → ℕ → Reading
-unpacked file space = let h : List ℕ = headerFields file in readAs (firstRefusal (unpackTests file space)) (coloursIn h) (channelsIn h) (componentsIn h)
+unpacked file space = readAs (firstRefusal (unpackTests file space)) (sizeIn (headerFields file))
 
 -- lent memory keeps its former bytes if the call is refused, as do bytes past the written part on success
 abbrev pub tableAfter : Reading → List ℕ → List ℕ → List ℕ
-tableAfter (Fabric colours channels n) file table = openTable file n ++ drop (24 * n) table
+tableAfter (Fabric size) file table = openTable file (size .components) ++ drop (24 * size .components) table
 tableAfter (Rejected r) file table = table
 
 unfoldable pub unpackedTable : List ℕ → List ℕ → List ℕ
@@ -45,20 +44,18 @@ packTests colours channels table space = rowTests colours channels table (length
 unfoldable pub packed : ℕ → ℕ → List ℕ → ℕ → Verdict
 packed colours channels table space = firstRefusal (packTests colours channels table space)
 
-abbrev pub fileAfter : Verdict → ℕ → ℕ → List ℕ → List ℕ → List ℕ
-fileAfter Accepted colours channels table file = packedFile colours channels table (length table / 24) ++ drop (4 + 13 * (length table / 24)) file
-fileAfter (Refused r) colours channels table file = file
-
 unfoldable pub packedInto : ℕ → ℕ → List ℕ → List ℕ → List ℕ
-packedInto colours channels table file = fileAfter (packed colours channels table (length file)) colours channels table file
+packedInto colours channels table file =
+    let n : ℕ = length table / 24 in
+    kept (packed colours channels table (length file)) (packedFile colours channels table n ++ drop (4 + 13 * n) file) file
 
 -- ---- record: the 13 bytes of component k in the lent file itself, or an empty part if the file is refused by one of 1-8 or k is N or more
 abbrev pub partStart : Reading → ℕ → ℕ
-partStart (Fabric colours channels n) k = cond (ltb k n) (4 + 13 * k) 0
+partStart (Fabric size) k = cond (ltb k (size .components)) (4 + 13 * k) 0
 partStart (Rejected r) k = 0
 
 abbrev pub partLength : Reading → ℕ → ℕ
-partLength (Fabric colours channels n) k = cond (ltb k n) 13 0
+partLength (Fabric size) k = cond (ltb k (size .components)) 13 0
 partLength (Rejected r) k = 0
 
 unfoldable pub recordStart : List ℕ → ℕ → ℕ

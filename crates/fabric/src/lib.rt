@@ -5,54 +5,32 @@ ghost use mathlib.Core.List.{_++_};
 ghost use lib.ListN.{length, take, drop};
 ghost use Rattle.fabric.specs.PackedFile.{headerBytes, packedFile};
 ghost use Rattle.fabric.specs.Calls.{unpacked, unpackedTable, packed, packedInto, recordStart, recordLength};
-ghost use Rattle.fabric.specs.Stages.{roomFor, withRoom, tableVerdict};
+ghost use Rattle.refusals.specs.Room.{roomFor};
+ghost use Rattle.refusals.specs.declared.Verdict.the-variants.{Accepted};
+ghost use Rattle.reader.specs.Reading.{readAs};
+ghost use Rattle.fabric.specs.Stages.{tableVerdict};
+use netlist::Size;
 use reader::Reading;
 use refusals::Refusal;
 use refusals::Verdict;
 
-// The verdict with so much space for what needs so much.
-pub fn room_for(v: Verdict, space: usize, need: usize) -> Verdict
-    ensures { λ r. ⌜ r ≡ roomFor v space need ⌝ }
+// What unpack answers of a file that is read, with so much space for its table.
+fn with_room(size: Size, space: usize) -> Reading
+    requires { ⌜ size .components ≤ 128 ⌝ }
+    ensures { λ r. ⌜ r ≡ readAs (roomFor Accepted space (24 * size .components)) size ⌝ }
 {
-    match v {
-        Verdict::Accepted => {
-            if space < need {
-                return Verdict::Refused(Refusal::ResultSpace);
-            }
-            Verdict::Accepted
-        }
-        Verdict::Refused(first) => Verdict::Refused(first),
-    }
-}
-
-// What unpack answers with so much space for the table of a file that is read so.
-fn with_room(found: Reading, space: usize) -> Reading
-    ensures { λ r. ⌜ r ≡ withRoom found space ⌝ }
-{
-    match found {
-        Reading::Rejected(e) => Reading::Rejected(e),
-        Reading::Fabric {
-            colours,
-            channels,
-            components,
-        } => {
-            if space < 24 * components as usize {
-                return Reading::Rejected(Refusal::ResultSpace);
-            }
-            Reading::Fabric {
-                colours,
-                channels,
-                components,
-            }
-        }
-    }
+    let need = 24 * size.components;
+    reader::read_as(refusals::room_for(Verdict::Accepted, space, need), size)
 }
 
 // What unpack answers, with so much space.
 pub fn unpack_answer(file: &[u8], space: usize) -> Reading
     ensures { λ r. ⌜ r ≡ unpacked (now (file .entry)) space ⌝ }
 {
-    with_room(reader::reading_of(file), space)
+    match reader::reading_of(file) {
+        Reading::Rejected(e) => Reading::Rejected(e),
+        Reading::Fabric(size) => with_room(size, space),
+    }
 }
 
 // Writes the open table of a file.
@@ -62,19 +40,16 @@ pub fn unpack(file: &[u8], table: &mut [u8]) -> Reading
     let mut rows = [0u8; 3072];
     let mut ends = [0u16; 513];
     let mut order = [0u16; 510];
-    let found = reader::read(file, &mut rows, &mut ends, &mut order);
-    match with_room(found, table.len()) {
+    match reader::read(file, &mut rows, &mut ends, &mut order) {
         Reading::Rejected(e) => Reading::Rejected(e),
-        Reading::Fabric {
-            colours,
-            channels,
-            components,
-        } => {
-            digits::copy(&rows, 24 * components as usize, &mut *table, 0);
-            Reading::Fabric {
-                colours,
-                channels,
-                components,
+        Reading::Fabric(size) => {
+            let answer = with_room(size, table.len());
+            match answer {
+                Reading::Rejected(e) => Reading::Rejected(e),
+                Reading::Fabric(given) => {
+                    digits::copy(&rows, 24 * size.components, &mut *table, 0);
+                    Reading::Fabric(given)
+                }
             }
         }
     }
@@ -87,12 +62,8 @@ pub fn record(file: &[u8], k: usize) -> &[u8]
 {
     match reader::reading_of(file) {
         Reading::Rejected(_e) => &file[0..0],
-        Reading::Fabric {
-            colours: _,
-            channels: _,
-            components,
-        } => {
-            let n = components as usize;
+        Reading::Fabric(size) => {
+            let n = size.components;
             if k < n {
                 let start = 4 + 13 * k;
                 let end = start + 13;
@@ -164,7 +135,7 @@ pub fn pack_answer(colours: u64, channels: u64, table: &[u8], space: usize) -> V
     if (n == 0) | (128 < n) | (channels == 0) | (255 < channels) | (colours == 0) | (8 < colours) {
         return Verdict::Refused(Refusal::CountRange);
     }
-    room_for(
+    refusals::room_for(
         table_verdict(table, n, colours as u8, channels as u8),
         space,
         4 + 13 * n,

@@ -7,19 +7,19 @@ use native.Mathlib.Omega.{arith}
 use lib.Dec.{ltb, eqb}
 use lib.ListN.{length}
 use lib.IntN.{pos}
-use borrow.Author.Tests.{ltb-true, ltb-false, lt-ltb, eqb-true, eqb-false, not-false}
+use borrow.Author.Tests.{ltb-true, ltb-false, lt-ltb, le-ltb, eqb-true, eqb-false, ne-eqb, not-false}
 use Rattle.integers.specs.Sum.{isZero}
 use Rattle.integers.proofs.Sum.{zero-is, is-zero}
 use Rattle.digits.specs.Least.{least}
 use Rattle.digits.proofs.Least.{least-none, least-before, least-true, least-le}
-use Rattle.component.specs.Netlist.{Netlist}
+use Rattle.netlist.specs.Netlist.{Netlist}
 use Rattle.refusals.proofs.Refusals.{cond-accepted}
 use Rattle.refusals.specs.declared.Refusal.the-variants.{ProposalLength, NoEquation, FlowLeft, NoWeight}
 use Rattle.refusals.specs.declared.Verdict.the-variants.{Accepted}
 use Rattle.flows.specs.Terms.{terms}
 use Rattle.flows.specs.Flows.{flowSum, Cancels, weight, entry}
 use Rattle.flows.specs.Verdict.{badLength, badTerm, firstBadTerm, isLeft, lowestLeft, isWeight, weightless, judged, WellFormed, SomeWeight}
-use Rattle.flows.proofs.Verdict.{entry-weight, judged-accepted}
+use Rattle.flows.proofs.Weights.{entry-weight}
 
 or-false : (a b : Bool) → (a || b) ≡ false → (a ≡ false) × (b ≡ false)
 or-false true b e = absurd (true≢false e)
@@ -107,8 +107,8 @@ module _ (f : Netlist) (p : List ℕ) where
   accepted-weighty e = weighty-some (eqb-false (least (isWeight f p) (8 * f .components)) (8 * f .components) (parts e .3))
 
   pub accepted-exactly : f .colours ≤ 8 → WellFormed f p → Cancels f p → SomeWeight f p → judged f p ≡ Accepted
+  unfolding judged
   accepted-exactly few w c s =
-      let l = or-false (not (eqb (length p % 4) 0)) (ltb 16384 (length p)) (w .lengths) in
       let k : terms p ≤ firstBadTerm f p = omega (arith, least-none (badTerm f p) (terms p) (w .named)) in
       let v : 8 * f .channels ≤ lowestLeft f p = omega (arith, cancels-none-left c) in
-      sym (judged-accepted f p (eqb-true (length p % 4) 0 (not-false (eqb (length p % 4) 0) (l .0))) (omega (arith, ltb-false 16384 (length p) (l .1))) k v (some-weighty few s))
+      simp (w .lengths, le-ltb (firstBadTerm f p) (terms p) k, le-ltb (lowestLeft f p) (8 * f .channels) v, ne-eqb (least (isWeight f p) (8 * f .components)) (8 * f .components) (some-weighty few s))

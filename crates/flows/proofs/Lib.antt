@@ -1,6 +1,4 @@
-pub mod Bounds
 pub mod Terms
-pub mod Sums
-pub mod Verdict
+pub mod Weights
 pub mod Steps
 pub mod Exactly

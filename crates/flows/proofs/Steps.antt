@@ -9,17 +9,17 @@ use lib.IntN.{ℤ, pos, negℤ, _+ℤ_, _-ℤ_, _*ℤ_, +ℤ-idl, +ℤ-idr, +ℤ
 use borrow.Author.Tests.{lt-ltb, eqb-true, eq-eqb}
 use Rattle.integers.specs.Sum.{sumTo}
 use Rattle.integers.proofs.Ring.{distrib-l, neg-*ℤ}
-use Rattle.integers.proofs.Sum.{sum-cong, sum-zero, sum-add, sum-only, sum-minus, one-*ℤ}
+use Rattle.integers.proofs.Sum.{sum-cong, sum-zero, sum-add, sum-only, sum-minus, one-*ℤ, cond-zero}
 use Rattle.integers.proofs.Lines.{by-lines-2}
 use Rattle.component.specs.Kind.{isQueue}
 use Rattle.component.specs.Row.{kind}
-use Rattle.component.specs.Netlist.{Netlist, rowOf}
+use Rattle.netlist.specs.Netlist.{Netlist, rowOf}
 use Rattle.equations.specs.Equations.{sideIf, hasEquation, side, factor}
 use Rattle.flows.specs.Terms.{terms, component, index, multiplier}
 use Rattle.flows.specs.Flows.{flowSum, Cancels, weight, acceptedSum}
 use Rattle.flows.specs.Verdict.{ReadFabric}
 use Rattle.flows.specs.Steps.{flowChange, countChange, Holds, Steps, none, then}
-use Rattle.flows.proofs.Sums.{queue-low, queue-has, known-place}
+use Rattle.equations.proofs.Queues.{queue-low, queue-has, known-place}
 
 -- a - b is 0
 differ : (a b : ℤ) → a -ℤ b ≡ pos 0 → a ≡ b
@@ -48,14 +48,10 @@ module _ (f : Netlist) (h : ReadFabric f) (p : List ℕ) (moved : ℕ → ℕ �
   unfolding countIn
   off k i q d ne = ap (λ (z : ℤ). z *ℤ grows q d) (go (eqb k q) refl (eqb i d) refl) ∙ zero-*ℤ (grows q d)
     where
-      cond-zero : (b : Bool) → cond b (pos 0) (pos 0) ≡ pos 0
-      cond-zero true = refl
-      cond-zero false = refl
-
       go : (a : Bool) → eqb k q ≡ a → (b : Bool) → eqb i d ≡ b → cond (isQueue (kind (rowOf f q))) (cond (a && b) (pos 1) (pos 0)) (pos 0) ≡ pos 0
       go true ea true eb = absurd (ne (eqb-true k q ea, eqb-true i d eb))
-      go true ea false eb = cond-zero (isQueue (kind (rowOf f q)))
-      go false ea b eb = cond-zero (isQueue (kind (rowOf f q)))
+      go true ea false eb = cond-zero (isQueue (kind (rowOf f q))) (pos 0) refl
+      go false ea b eb = cond-zero (isQueue (kind (rowOf f q))) (pos 0) refl
 
   on : (k i : ℕ) → countIn f k i k i *ℤ grows k i ≡ countChange f k i n n′
   unfolding countIn countChange grows
@@ -115,12 +111,12 @@ module _ (f : Netlist) (h : ReadFabric f) (p : List ℕ) (moved : ℕ → ℕ �
     kept k i = go (hasEquation f k i) refl (isQueue (kind (rowOf f k))) refl
       where
         go : (a : Bool) → hasEquation f k i ≡ a → (b : Bool) → isQueue (kind (rowOf f k)) ≡ b → flowChange f k i moved +ℤ count-side k i ≡ pos 0
-        go true ea true eb = ap (λ (z : ℤ). flowChange f k i moved +ℤ z) (count-known k i (known-place f h k i ea) (queue-low f h k i ea eb)) ∙ t .holds k i ea
+        go true ea true eb = ap (λ (z : ℤ). flowChange f k i moved +ℤ z) (count-known k i (known-place f k i ea) (queue-low f k i ea eb)) ∙ t .holds k i ea
         go true ea false eb =
             ap (λ (z : ℤ). flowChange f k i moved +ℤ z) (count-none k i (λ q d l m. vanish k i q d l m (λ e _ _. true≢false (sym e ∙ eb))) ∙ sym (change-other k i eb)) ∙ t .holds k i ea
         go false ea b eb =
             ap (λ (z : ℤ). z +ℤ count-side k i) (flow-none k i ea) ∙ +ℤ-idl (count-side k i)
-            ∙ count-none k i (λ q d l m. vanish k i q d l m (λ e lk li. true≢false (sym (queue-has f h k i lk e ∙ lt-ltb i (f .colours) li) ∙ ea)))
+            ∙ count-none k i (λ q d l m. vanish k i q d l m (λ e lk li. true≢false (sym (queue-has f k i lk e ∙ lt-ltb i (f .colours) li) ∙ ea)))
 
     -- ---- all terms
     weight-column : (q d : ℕ) → weight f p q d ≡ sumTo (terms p) (λ k. multiplier p k *ℤ countIn f (component p k) (index p k) q d)

@@ -8,7 +8,7 @@ use lib.IntN.{ℤ, pos, _*ℤ_}
 use Rattle.integers.specs.Sum.{sumTo}
 use Rattle.component.specs.Kind.{isQueue}
 use Rattle.component.specs.Row.{kind, filling, fillColour}
-use Rattle.component.specs.Netlist.{Netlist, rowOf}
+use Rattle.netlist.specs.Netlist.{Netlist, rowOf}
 use Rattle.equations.specs.Equations.{factor}
 use Rattle.flows.specs.Terms.{terms, component, index, multiplier}
 

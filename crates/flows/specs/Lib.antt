@@ -2,4 +2,3 @@ pub mod Terms
 pub mod Flows
 pub mod Verdict
 pub mod Steps
-pub mod Sums

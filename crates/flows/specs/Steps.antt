@@ -6,7 +6,7 @@ use lib.IntN.{ℤ, pos, _+ℤ_, _-ℤ_, _*ℤ_}
 use Rattle.integers.specs.Sum.{sumTo}
 use Rattle.component.specs.Kind.{isQueue}
 use Rattle.component.specs.Row.{kind}
-use Rattle.component.specs.Netlist.{Netlist, rowOf}
+use Rattle.netlist.specs.Netlist.{Netlist, rowOf}
 use Rattle.equations.specs.Equations.{hasEquation, factor}
 
 -- by how much the step's transfers change the left side of the equation of component k and index i, but for n

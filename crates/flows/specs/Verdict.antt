@@ -12,9 +12,9 @@ use Rattle.integers.specs.Sum.{isZero}
 use Rattle.digits.specs.Least.{least}
 use Rattle.digits.specs.UpTo.{upTo}
 use Rattle.component.specs.Facts.{RowFacts}
-use Rattle.component.specs.Netlist.{Netlist, rowOf}
+use Rattle.netlist.specs.Netlist.{Netlist, rowOf}
 use Rattle.refusals.specs.Refusals.{Test, test, firstRefusal}
-use Rattle.refusals.specs.declared.Refusal.the-variants.{ProposalLength, NoEquation, FlowLeft, NoWeight}
+use Rattle.refusals.specs.declared.Refusal.the-variants.{ProposalLength, NoEquation, FlowLeft, NoWeight, ResultSpace}
 use Rattle.refusals.specs.declared.Verdict.{Verdict}
 use Rattle.refusals.specs.declared.Verdict.the-variants.{Accepted, Refused}
 use Rattle.equations.specs.Equations.{hasEquation}
@@ -58,6 +58,10 @@ judgeTests f p =
 unfoldable pub judged : Netlist → List ℕ → Verdict
 judged f p = firstRefusal (judgeTests f p)
 
+-- then 23 result space short, with room for so many entries
+unfoldable pub judgedWithin : Netlist → List ℕ → ℕ → Verdict
+judgedWithin f p space = firstRefusal (judgeTests f p ++ (test ResultSpace (ltb space (8 * f .components)) ∷ []))
+
 -- Both files are well formed if none of 1-8, 11 and 12 is met: of the proposal, 11 and 12.
 pub record WellFormed (f : Netlist) (p : List ℕ) : Type 0 where
   pub lengths : badLength p ≡ false
@@ -84,6 +88,11 @@ byteOf z i = ofZ w64 z / 2 ^ (8 * i) % 256
 -- byte j of a table of entries
 abbrev pub weightByte : (ℕ → ℤ) → ℕ → ℕ
 weightByte g j = byteOf (g (j / 8)) (j % 8)
+
+-- lent bytes after a verdict, which hold an entry in each whole 8: 64N bytes, or as they were
+unfoldable pub bytesBy : Verdict → Netlist → List ℕ → List ℕ → List ℕ
+bytesBy Accepted f p bytes = upTo (8 * (8 * f .components)) (weightByte (entry f p)) ++ drop (8 * (8 * f .components)) bytes
+bytesBy (Refused r) f p bytes = bytes
 
 -- what is asked of the fabric: it was read
 pub record ReadFabric (f : Netlist) : Type 0 where

@@ -11,7 +11,7 @@ use lib.ListN.{getD}
 use borrow.Author.Tests.{lt-ltb, le-ltb}
 use Rattle.component.specs.Kind.{kindOf}
 use Rattle.component.specs.Row.{kind, masked}
-use Rattle.state.specs.Good.{emitted, goodByte, all, goodCell}
+use Rattle.cells.specs.Good.{emitted, goodByte, all, goodCell}
 
 pub emitted-at : (r : List ℕ) (b : ℕ) → (b ≡ 0 → ⊥) → emitted r b ≡ (ltb (b - 1) 8 && masked r (b - 1))
 emitted-at r zero h = absurd (h refl)

@@ -13,11 +13,11 @@ use borrow.Author.Tests.{lt-ltb, le-ltb, eq-eqb, ne-eqb}
 use Rattle.record.proofs.Table.{row-at}
 use Rattle.record.specs.Table.{row}
 use Rattle.component.specs.Kind.{Kind, source, sink, queue, function, fork, join, switch, merge, kindOf}
-use Rattle.component.specs.Netlist.{Netlist}
+use Rattle.netlist.specs.Netlist.{Netlist}
 use Rattle.component.specs.Row.{kindNumber, kind, mask}
-use Rattle.state.specs.Choices.{goodChoice, choiceAt}
-use Rattle.state.specs.Good.{emitted, all}
-use Rattle.state.proofs.Good.{all-at}
+use Rattle.cells.specs.Choices.{goodChoice, choiceAt}
+use Rattle.cells.specs.Good.{emitted, all}
+use Rattle.cells.proofs.Good.{all-at}
 use Rattle.good.specs.Sets.{inSet, choiceSet, ChoiceSets}
 
 -- bit 8 - b

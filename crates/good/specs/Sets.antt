@@ -8,7 +8,7 @@ use lib.ListN.{length, getD}
 use Rattle.record.specs.Table.{row}
 use Rattle.component.specs.Kind.{Kind, source, sink, queue, function, fork, join, switch, merge}
 use Rattle.component.specs.Row.{kind}
-use Rattle.state.specs.Choices.{goodChoice}
+use Rattle.cells.specs.Choices.{goodChoice}
 
 -- (24 - b % 16) % 16 is 8 - b
 unfoldable pub inSet : ℕ → ℕ → Bool

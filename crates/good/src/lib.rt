@@ -6,11 +6,11 @@ ghost use lib.Dec.{ltb, eqb};
 ghost use lib.ListN.{length, getD};
 ghost use Rattle.component.specs.Kind.{kindOf};
 ghost use Rattle.component.specs.Row.{kind};
-ghost use Rattle.component.specs.Netlist.{netlist};
-ghost use Rattle.state.specs.Good.{emitted, goodByte, all, goodCell, badComponent};
-ghost use Rattle.state.specs.Choices.{choiceAt, badChoice};
+ghost use Rattle.netlist.specs.Netlist.{netlist, netlistOf};
+ghost use Rattle.cells.specs.Good.{emitted, goodByte, all, goodCell, badComponent};
+ghost use Rattle.cells.specs.Choices.{choiceAt, badChoice};
 ghost use Rattle.good.specs.Sets.{inSet, choiceSet, ChoiceSets};
-use component::Size;
+use netlist::Size;
 
 // 0, or 1 + an emitted colour.
 fn is_emitted(row: &[u8], b: u8) -> bool
@@ -105,7 +105,7 @@ fn good_cell(row: &[u8], colours: u8, cell: &[u8]) -> bool
 // The lowest component whose bytes are not good, or their number.
 pub fn first_bad_cell(table: &[u8], size: Size, state: &[u8]) -> usize
     requires { ⌜ (size .colours ≤ 8) × (size .components ≤ 128) × (24 * size .components ≤ length (now table)) × (64 * size .components ≤ length (now state)) ⌝ }
-    ensures { λ r. ⌜ r ≡ badComponent (netlist (size .colours) (size .channels) (size .components) (now (table .entry))) (now (state .entry)) ⌝ }
+    ensures { λ r. ⌜ r ≡ badComponent (netlistOf size (now (table .entry))) (now (state .entry)) ⌝ }
 {
     let mut k: usize = 0;
     while k < size.components {
@@ -201,7 +201,7 @@ fn allowed_steps(table: &[u8], sets: &[u16; 128], components: usize, choices: &[
 // The lowest offset of a choice that is not allowed, or their number.
 pub fn first_bad_choice(table: &[u8], size: Size, choices: &[u8]) -> usize
     requires { ⌜ (0 < size .components) × (size .components ≤ 128) × (24 * size .components ≤ length (now table)) ⌝ }
-    ensures { λ r. ⌜ r ≡ badChoice (netlist (size .colours) (size .channels) (size .components) (now (table .entry))) (now (choices .entry)) ⌝ }
+    ensures { λ r. ⌜ r ≡ badChoice (netlistOf size (now (table .entry))) (now (choices .entry)) ⌝ }
 {
     let mut sets = [0u16; 128];
     choice_sets(table, size.components, &mut sets);

@@ -147,3 +147,7 @@ unfolding isZero
 nonzero-bits (pos zero) h = absurd (h refl)
 nonzero-bits (pos (suc n)) h = refl
 nonzero-bits (negsuc n) h = refl
+
+pub if-near : (b : Bool) (z : ℤ) (n : ℕ) → natAbs z ≤ n → natAbs (cond b z (pos 0)) ≤ n
+if-near true z n h = h
+if-near false z n h = omega arith

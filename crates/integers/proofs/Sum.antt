@@ -124,3 +124,16 @@ zero-is (negsuc n) e = absurd (true≢false (sym e))
 pub is-zero : (z : ℤ) → z ≡ pos 0 → isZero z ≡ true
 unfolding isZero
 is-zero z e = ap isZero e
+
+-- ---- what is added only if a test holds
+pub cond-zero : (b : Bool) (z : ℤ) → z ≡ pos 0 → cond b z (pos 0) ≡ pos 0
+cond-zero true z e = e
+cond-zero false z e = refl
+
+pub sum-if : (b : Bool) (n : ℕ) (g : ℕ → ℤ) → sumTo n (λ k. cond b (g k) (pos 0)) ≡ cond b (sumTo n g) (pos 0)
+sum-if true n g = refl
+sum-if false n g = sum-zero n (λ k. pos 0) (λ k l. refl)
+
+pub mul-if : (b : Bool) (m z : ℤ) → m *ℤ cond b z (pos 0) ≡ cond b (m *ℤ z) (pos 0)
+mul-if true m z = refl
+mul-if false m z = *ℤ-zero m

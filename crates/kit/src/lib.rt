@@ -4,7 +4,8 @@ ghost use Prim.Native.Nat.{_/_};
 ghost use lib.ListN.{length};
 ghost use Rattle.refusals.specs.Refusals.{numberOf, placeOf};
 ghost use Rattle.reader.specs.Reading.{verdictOf, coloursOf, channelsOf};
-ghost use Rattle.checker.specs.Calls.{startVerdict, stateAfterStart, stepVerdict, stateAfterStep, movesAfterStep, runVerdict, stateAfterRun, checkVerdict, checkConstant, bytesAfterCheck};
+ghost use Rattle.stepping.specs.Calls.{startVerdict, stateAfterStart, stepVerdict, stateAfterStep, movesAfterStep, runVerdict, stateAfterRun};
+ghost use Rattle.checking.specs.Check.{checkVerdict, checkConstant, bytesAfterCheck};
 ghost use Rattle.fabric.specs.Calls.{unpacked, unpackedTable, packed, packedInto};
 
 #[no_mangle]
@@ -56,14 +57,14 @@ pub extern "C" fn fabric_start(fabric: &[u8], state: &mut [u8]) -> u32
     ensures { λ r. ⌜ (r ≡ numberOf (startVerdict (now (fabric .entry)) (length (now (state .entry)))))
         × (now (state .exit) ≡ stateAfterStart (now (fabric .entry)) (now (state .entry))) ⌝ }
 {
-    refusals::number_of(checker::start(fabric, &mut *state))
+    refusals::number_of(stepping::start(fabric, &mut *state))
 }
 
 #[no_mangle]
 pub extern "C" fn fabric_start_place(fabric: &[u8], state: &[u8]) -> u64
     ensures { λ r. ⌜ r ≡ placeOf (startVerdict (now (fabric .entry)) (length (now (state .entry)))) ⌝ }
 {
-    refusals::place_of(checker::start_answer(fabric, state.len())) as u64
+    refusals::place_of(stepping::start_answer(fabric, state.len())) as u64
 }
 
 #[no_mangle]
@@ -77,7 +78,7 @@ pub extern "C" fn fabric_step(
         × (now (state .exit) ≡ stateAfterStep (now (fabric .entry)) (now (state .entry)) (now (choices .entry)) (length (now (moves .entry))))
         × (now (moves .exit) ≡ movesAfterStep (now (fabric .entry)) (now (state .entry)) (now (choices .entry)) (now (moves .entry))) ⌝ }
 {
-    refusals::number_of(checker::step(fabric, &mut *state, choices, &mut *moves))
+    refusals::number_of(stepping::step(fabric, &mut *state, choices, &mut *moves))
 }
 
 #[no_mangle]
@@ -89,7 +90,7 @@ pub extern "C" fn fabric_step_place(
 ) -> u64
     ensures { λ r. ⌜ r ≡ placeOf (stepVerdict (now (fabric .entry)) (now (state .entry)) (now (choices .entry)) (length (now (moves .entry)))) ⌝ }
 {
-    refusals::place_of(checker::step_answer(fabric, state, choices, moves.len())) as u64
+    refusals::place_of(stepping::step_answer(fabric, state, choices, moves.len())) as u64
 }
 
 #[no_mangle]
@@ -97,14 +98,14 @@ pub extern "C" fn fabric_run(fabric: &[u8], state: &mut [u8], choices: &[u8]) ->
     ensures { λ r. ⌜ (r ≡ numberOf (runVerdict (now (fabric .entry)) (now (state .entry)) (now (choices .entry))))
         × (now (state .exit) ≡ stateAfterRun (now (fabric .entry)) (now (state .entry)) (now (choices .entry))) ⌝ }
 {
-    refusals::number_of(checker::run(fabric, &mut *state, choices))
+    refusals::number_of(stepping::run(fabric, &mut *state, choices))
 }
 
 #[no_mangle]
 pub extern "C" fn fabric_run_place(fabric: &[u8], state: &[u8], choices: &[u8]) -> u64
     ensures { λ r. ⌜ r ≡ placeOf (runVerdict (now (fabric .entry)) (now (state .entry)) (now (choices .entry))) ⌝ }
 {
-    refusals::place_of(checker::run_answer(fabric, state, choices)) as u64
+    refusals::place_of(stepping::run_answer(fabric, state, choices)) as u64
 }
 
 #[no_mangle]
@@ -112,14 +113,14 @@ pub extern "C" fn fabric_check(fabric: &[u8], proposal: &[u8], weights: &mut [u8
     ensures { λ r. ⌜ (r ≡ numberOf (checkVerdict (now (fabric .entry)) (now (proposal .entry)) (length (now (weights .entry)) / 8)))
         × (now (weights .exit) ≡ bytesAfterCheck (now (fabric .entry)) (now (proposal .entry)) (now (weights .entry))) ⌝ }
 {
-    refusals::number_of(checker::check_bytes(fabric, proposal, &mut *weights))
+    refusals::number_of(checking::check_bytes(fabric, proposal, &mut *weights))
 }
 
 #[no_mangle]
 pub extern "C" fn fabric_check_place(fabric: &[u8], proposal: &[u8], weights: &[u8]) -> u64
     ensures { λ r. ⌜ r ≡ placeOf (checkVerdict (now (fabric .entry)) (now (proposal .entry)) (length (now (weights .entry)) / 8)) ⌝ }
 {
-    let j = checker::check_answer(fabric, proposal, weights.len() / 8);
+    let j = checking::check_answer(fabric, proposal, weights.len() / 8);
     let v = j.verdict;
     refusals::place_of(v) as u64
 }
@@ -128,5 +129,5 @@ pub extern "C" fn fabric_check_place(fabric: &[u8], proposal: &[u8], weights: &[
 pub extern "C" fn fabric_check_constant(fabric: &[u8], proposal: &[u8], weights: &[u8]) -> i64
     ensures { λ r. ⌜ r ≡ checkConstant (now (fabric .entry)) (now (proposal .entry)) (length (now (weights .entry)) / 8) ⌝ }
 {
-    checker::check_answer(fabric, proposal, weights.len() / 8).constant
+    checking::check_answer(fabric, proposal, weights.len() / 8).constant
 }

@@ -14,16 +14,17 @@ use Rattle.refusals.specs.Refusals.{refusalNumber, refusalPlace}
 use Rattle.refusals.specs.declared.Refusal.{Refusal}
 use Rattle.refusals.specs.declared.Verdict.{Verdict}
 use Rattle.refusals.specs.declared.Verdict.the-variants.{Accepted, Refused}
+use Rattle.netlist.specs.declared.Size.{Size}
 use Rattle.reader.specs.Reading.{reading}
 use Rattle.reader.specs.declared.Reading.the-variants.{Fabric}
 use Rattle.reader.proofs.Exists.{accepted-exists}
 use Rattle.flows.specs.Flows.{entry}
 use Rattle.digits.specs.UpTo.{upTo}
-use Rattle.digits.proofs.UpTo.{length-upTo}
+use Rattle.digits.proofs.UpTo.{length-upTo, filled-at}
 use Rattle.flows.specs.Verdict.{tableBy}
-use Rattle.checker.specs.Calls.{netlistIn, checkVerdict, checkConstant, weightsAfterCheck}
-use Rattle.checker.proofs.Files.{netlist-is}
-use Rattle.checker.proofs.Bytes.{table-entry}
+use Rattle.reader.specs.File.{netlistIn}
+use Rattle.reader.proofs.Opened.{netlist-is}
+use Rattle.checking.specs.Check.{checkVerdict, checkConstant, weightsAfterCheck}
 use Rattle.lines.specs.Listing.{weightLines, sumLine, refusalLine, room, textBy, listingOf, listing}
 use Rattle.lines.specs.Put.{Put}
 use Rattle.lines.proofs.Put.{put-then, put-whole}
@@ -56,7 +57,7 @@ module _ (g : ℕ → ℤ) (n : ℕ) where
       let e : length table ≡ n + (1024 - n) = omega arith in
       ap (λ (k : ℕ). weightLines k (λ u. getD table u (pos 0))) e
       ∙ lines-past n (1024 - n) (λ u. getD table u (pos 0)) past
-      ∙ lines-same n (λ u. getD table u (pos 0)) g (λ u h. table-entry g (pos 0) n (drop n zeros) u h)
+      ∙ lines-same n (λ u. getD table u (pos 0)) g (λ u h. filled-at g (drop n zeros) (pos 0) n u h)
 
 module _ (fabric proof : List ℕ) {F P : List ℕ} (ef : F ≡ take 1669 fabric) (ep : P ≡ take 16385 proof) {v : Verdict} (ev : v ≡ checkVerdict F P 1024) (o : List ℕ) (space : 32768 ≤ length o) where
   text-by : {u : Verdict} → v ≡ u → listing fabric proof ≡ textBy u (8 * netlistIn F .components) (entry (netlistIn F) P) (checkConstant F P 1024)
@@ -93,5 +94,5 @@ module _ (fabric proof : List ℕ) {F P : List ℕ} (ef : F ≡ take 1669 fabric
         is-listing (ap₂ _++_ lines-are (ap sumLine (toZ-ofZ w64 k f ∙ ek)) ∙ sym (text-by e)) (put-then a b) (omega arith)
 
 -- the table has room for the weights of every fabric that is read: the test of 23 is never met
-pub room-enough : (file : List ℕ) {C M N : ℕ} → reading file ≡ Fabric C M N → 8 * netlistIn file .components ≤ room
-room-enough file {C} {M} {N} e = rw (netlist-is file e) (omega (arith, accepted-exists file C M N e .2 .fewRows))
+pub room-enough : (file : List ℕ) {s : Size} → reading file ≡ Fabric s → 8 * netlistIn file .components ≤ room
+room-enough file {s} e = rw (netlist-is file e) (omega (arith, accepted-exists file s e .2 .fewRows))

@@ -9,7 +9,8 @@ use Rattle.refusals.specs.Refusals.{refusalNumber, refusalPlace}
 use Rattle.refusals.specs.declared.Verdict.{Verdict}
 use Rattle.refusals.specs.declared.Verdict.the-variants.{Accepted, Refused}
 use Rattle.flows.specs.Flows.{entry}
-use Rattle.checker.specs.Calls.{netlistIn, checkVerdict, checkConstant}
+use Rattle.reader.specs.File.{netlistIn}
+use Rattle.checking.specs.Check.{checkVerdict, checkConstant}
 use Rattle.lines.specs.Decimal.{integer}
 
 -- a blank and a number

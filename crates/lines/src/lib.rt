@@ -136,7 +136,7 @@ pub fn write_listing(fabric: &[u8], proof: &[u8], text: &mut [u8]) -> usize
         × (now (text .exit) ≡ listing (now (fabric .entry)) (now (proof .entry)) ++ drop r (now (text .entry))) ⌝ }
 {
     let mut weights = [0i64; 1024];
-    let j = checker::check(first(fabric, 1669), first(proof, 16385), &mut weights);
+    let j = checking::check(first(fabric, 1669), first(proof, 16385), &mut weights);
     let v = j.verdict;
     match v {
         Verdict::Accepted => {

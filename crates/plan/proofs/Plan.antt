@@ -10,11 +10,10 @@ use Rattle.digits.specs.UpTo.{upTo}
 use Rattle.digits.proofs.UpTo.{filled-none, filled-more, length-filled, filled-at}
 use Rattle.record.specs.Table.{row}
 use Rattle.record.proofs.Table.{row-at}
-use Rattle.component.specs.Kind.{A}
 use Rattle.component.specs.Row.{kindNumber}
-use Rattle.component.specs.Netlist.{Netlist, rowOf}
+use Rattle.netlist.specs.Netlist.{Netlist, rowOf}
 use Rattle.wiring.specs.Signals.{endOf}
-use Rattle.reader.specs.Accepted.{AcceptedFabric}
+use Rattle.netlist.specs.Accepted.{AcceptedFabric}
 use Rattle.plan.specs.Plan.{fieldAt, planField, placed, planned, Planned}
 
 pub row-kind : (t : List ℕ) (k : ℕ) → kindNumber (row t k) ≡ getD t (24 * k) 0

@@ -5,10 +5,10 @@ ghost use Prim.Native.Nat.{suc, _+_, _*_, _/_, _≤_, _<_};
 ghost use lib.ListN.{length, getD, drop};
 ghost use Rattle.digits.specs.UpTo.{upTo};
 ghost use Rattle.record.specs.Table.{row};
-ghost use Rattle.component.specs.Netlist.{netlist};
-ghost use Rattle.reader.specs.Accepted.{AcceptedFabric};
+ghost use Rattle.netlist.specs.Netlist.{netlistOf};
+ghost use Rattle.netlist.specs.Accepted.{AcceptedFabric};
 ghost use Rattle.plan.specs.Plan.{fieldAt, placed, planned};
-use component::Size;
+use netlist::Size;
 
 // What a signal's rule needs: its number, the signal, the component that gives it, and the channels at its ports.
 pub struct Place {
@@ -87,10 +87,10 @@ fn put_place(plan: &mut [u16], at: usize, table: &[u8], s: usize, e: usize)
 
 // Lays out an order of an accepted fabric's signals.
 pub fn lay_out(table: &[u8], ends: &[u16], size: Size, order: &[u16; 510], plan: &mut [u16])
-    requires { ⌜ AcceptedFabric (netlist (size .colours) (size .channels) (size .components) (now table)) (now ends) (now order) ⌝ }
+    requires { ⌜ AcceptedFabric (netlistOf size (now table)) (now ends) (now order) ⌝ }
     requires { ⌜ 12 * size .channels ≤ length (now plan) ⌝ }
     ensures { λ _. ⌜ now (plan .exit) ≡
-        upTo (12 * size .channels) (planned (netlist (size .colours) (size .channels) (size .components) (now (table .entry))) (now (order .entry)))
+        upTo (12 * size .channels) (planned (netlistOf size (now (table .entry))) (now (order .entry)))
         ++ drop (12 * size .channels) (now (plan .entry)) ⌝ }
 {
     let mut i: usize = 0;

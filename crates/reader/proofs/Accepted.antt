@@ -1,13 +1,14 @@
 -- What an accepted file gives. Assumes nothing.
-use mathlib.Core.Path.{_≡_, sym, _∙_}
+use mathlib.Core.Path.{_≡_, ap, sym, _∙_}
 use Prim.Native.Nat.{ℕ, _+_, _*_, _≤_}
 use native.Mathlib.Omega.{arith}
 use mathlib.Core.List.{List}
 use lib.ListN.{length}
 use lib.Dec.{ltb}
 use Rattle.record.specs.Table.{openTable}
+use Rattle.netlist.specs.declared.Size.{Size}
 use Rattle.refusals.specs.Refusals.{firstRefusal}
-use Rattle.reader.specs.File.{headerFields, coloursIn, channelsIn, componentsIn, headerTests, recordTests, fileTests}
+use Rattle.reader.specs.File.{headerFields, coloursIn, channelsIn, componentsIn, sizeIn, headerTests, recordTests, fileTests}
 use Rattle.reader.specs.Reading.{reading}
 use Rattle.refusals.specs.declared.Refusal.the-variants.{FileShort}
 use Rattle.refusals.specs.declared.Verdict.the-variants.{Accepted}
@@ -15,29 +16,31 @@ use Rattle.reader.specs.declared.Reading.the-variants.{Fabric}
 use Rattle.refusals.proofs.Refusals.{refusal-append, cond-accepted, then-accepted}
 use Rattle.reader.proofs.Facts.{read-fabric, HeaderFacts, header-facts}
 
-module _ (file : List ℕ) {C M N : ℕ} (e : reading file ≡ Fabric C M N) where
-  pub accepted-parts : (firstRefusal (fileTests file) ≡ Accepted) × (coloursIn (headerFields file) ≡ C) × (channelsIn (headerFields file) ≡ M) × (componentsIn (headerFields file) ≡ N)
+module _ (file : List ℕ) {s : Size} (e : reading file ≡ Fabric s) where
+  pub accepted-parts : (firstRefusal (fileTests file) ≡ Accepted) × (sizeIn (headerFields file) ≡ s)
   unfolding reading
-  accepted-parts = read-fabric (firstRefusal (fileTests file)) _ _ _ e
+  accepted-parts = read-fabric (firstRefusal (fileTests file)) _ e
+
+  -- its numbers, one by one
+  pub accepted-size : (coloursIn (headerFields file) ≡ s .colours) × (channelsIn (headerFields file) ≡ s .channels) × (componentsIn (headerFields file) ≡ s .components)
+  accepted-size = (ap (λ (t : Size). t .colours) (accepted-parts .1), ap (λ (t : Size). t .channels) (accepted-parts .1), ap (λ (t : Size). t .components) (accepted-parts .1))
+
+  -- the tests behind the first
+  rest : (firstRefusal (headerTests (headerFields file) file) ≡ Accepted)
+      × (firstRefusal (recordTests (coloursIn (headerFields file)) (channelsIn (headerFields file)) file (openTable file (componentsIn (headerFields file))) (componentsIn (headerFields file))) ≡ Accepted)
+  rest =
+      let s = cond-accepted FileShort (ltb (length file) 4) _ (accepted-parts .0) in
+      let h : List ℕ = headerFields file in
+      let records = recordTests (coloursIn h) (channelsIn h) file (openTable file (componentsIn h)) (componentsIn h) in
+      then-accepted (firstRefusal (headerTests h file)) (firstRefusal records) (sym (refusal-append (headerTests h file) records) ∙ s .1)
 
   -- an accepted file has the length and the sum that its header says
   pub accepted-header : HeaderFacts (headerFields file) file
-  accepted-header =
-      let s = cond-accepted FileShort (ltb (length file) 4) _ (accepted-parts .0) in
-      let h : List ℕ = headerFields file in
-      header-facts h file
-      (then-accepted (firstRefusal (headerTests h file)) _
-      (sym (refusal-append (headerTests h file) (recordTests (coloursIn h) (channelsIn h) file (openTable file (componentsIn h)) (componentsIn h))) ∙ s .1) .0)
+  accepted-header = header-facts (headerFields file) file (rest .0)
 
   -- and its records are right
-  pub accepted-records : firstRefusal (recordTests C M file (openTable file N) N) ≡ Accepted
-  accepted-records =
-      let s = cond-accepted FileShort (ltb (length file) 4) _ (accepted-parts .0) in
-      let h : List ℕ = headerFields file in
-      let r =
-      then-accepted (firstRefusal (headerTests h file)) (firstRefusal (recordTests (coloursIn h) (channelsIn h) file (openTable file (componentsIn h)) (componentsIn h)))
-      (sym (refusal-append (headerTests h file) (recordTests (coloursIn h) (channelsIn h) file (openTable file (componentsIn h)) (componentsIn h))) ∙ s .1) .1 in
-      rw (accepted-parts .1, accepted-parts .2, accepted-parts .3) at r
+  pub accepted-records : firstRefusal (recordTests (s .colours) (s .channels) file (openTable file (s .components)) (s .components)) ≡ Accepted
+  accepted-records = rw (← accepted-parts .1) (rest .1)
 
-  pub accepted-long : (length file ≡ 4 + 13 * N) × (N ≤ 128)
-  accepted-long = let n : componentsIn (headerFields file) ≡ N = accepted-parts .3 in (omega (arith, accepted-header .long), omega (arith, accepted-header .fewRows))
+  pub accepted-long : (length file ≡ 4 + 13 * s .components) × (s .components ≤ 128)
+  accepted-long = let n = accepted-size .2 in (omega (arith, n, accepted-header .long), omega (arith, n, accepted-header .fewRows))

@@ -11,7 +11,8 @@ use Rattle.order.specs.Graph.{hasCircle}
 use Rattle.order.proofs.Exists.{listed, sorted-exists}
 use Rattle.record.specs.Table.{row, openTable}
 use Rattle.record.proofs.Table.{length-rows}
-use Rattle.component.specs.Netlist.{netlist}
+use Rattle.netlist.specs.Netlist.{netlistOf}
+use Rattle.netlist.specs.declared.Size.{Size}
 use Rattle.component.proofs.Facts.{row-facts}
 use Rattle.wiring.specs.Ends.{isEnd, firstUnmatched}
 use Rattle.wiring.specs.Ports.{found}
@@ -24,11 +25,11 @@ use Rattle.refusals.specs.declared.Verdict.the-variants.{Accepted}
 use Rattle.refusals.proofs.Refusals.{cond-accepted}
 use Rattle.reader.specs.File.{headerFields, coloursIn, channelsIn, componentsIn, wireTests}
 use Rattle.reader.specs.Reading.{reading}
-use Rattle.reader.specs.Accepted.{AcceptedFabric}
+use Rattle.netlist.specs.Accepted.{AcceptedFabric}
 use Rattle.reader.specs.declared.Reading.the-variants.{Fabric}
 use Rattle.reader.proofs.Tests.{colours-lt, channels-lt}
 use Rattle.reader.proofs.Facts.{mask-byte, good-records, records-accepted}
-use Rattle.reader.proofs.Accepted.{accepted-parts, accepted-header, accepted-records}
+use Rattle.reader.proofs.Accepted.{accepted-size, accepted-header, accepted-records}
 
 -- the end that gives a signal, by the signal's number
 gives-at : (table : List ℕ) (side : Bool) (x e : ℕ) → found (gives table (signalAt side x)) e ≡ found (isEnd table side x) e
@@ -58,14 +59,17 @@ wires-accepted table n channels e =
     (ltb-false (firstUnmatched table n channels) channels (s .0), cond-accepted Circle (hasCircle (dependence table n) (2 * channels)) Accepted (s .1) .0)
 
 -- the facts of every accepted file, with ends and an order that there are
-pub accepted-exists : (file : List ℕ) (C M N : ℕ) → reading file ≡ Fabric C M N → (ends : List ℕ) × (order : List ℕ) × AcceptedFabric (netlist C M N (openTable file N)) ends order
-accepted-exists file C M N e =
+pub accepted-exists : (file : List ℕ) (s : Size) → reading file ≡ Fabric s → (ends : List ℕ) × (order : List ℕ) × AcceptedFabric (netlistOf s (openTable file (s .components))) ends order
+accepted-exists file s e =
+    let C : ℕ = s .colours in
+    let M : ℕ = s .channels in
+    let N : ℕ = s .components in
     let r = records-accepted C M N file (openTable file N) (accepted-records file e) in
     let w = wires-accepted (openTable file N) N M (r .1) in
     let f = accepted-header file e in
-    let a : coloursIn (headerFields file) ≡ C = accepted-parts file e .1 in
-    let b : channelsIn (headerFields file) ≡ M = accepted-parts file e .2 in
-    let c : componentsIn (headerFields file) ≡ N = accepted-parts file e .3 in
+    let a : coloursIn (headerFields file) ≡ C = accepted-size file e .0 in
+    let b : channelsIn (headerFields file) ≡ M = accepted-size file e .1 in
+    let c : componentsIn (headerFields file) ≡ N = accepted-size file e .2 in
     let ca = colours-lt file in
     let cb = channels-lt file in
     let someColours : 0 < C = omega arith in

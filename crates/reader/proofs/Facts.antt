@@ -1,5 +1,5 @@
 -- What a file that passed its tests gives. Assumes nothing.
-use mathlib.Core.Path.{_≡_, refl, ap, sym, subst, _∙_}
+use mathlib.Core.Path.{_≡_, refl, ap, ap₂, sym, subst, _∙_}
 use Prim.Native.Nat.{ℕ, _+_, _*_, _%_, _≤_, _<_}
 use native.Mathlib.Nat.{mod-lt}
 use lib.Pow.{pow-pos}
@@ -16,16 +16,17 @@ use Rattle.record.specs.Record.{recordRow, recordPad}
 use Rattle.record.specs.Table.{row, recordAt, openTable}
 use Rattle.record.proofs.Table.{length-rows, row-open}
 use Rattle.component.specs.Row.{rowOk}
-use Rattle.component.specs.Netlist.{netlist}
+use Rattle.netlist.specs.Netlist.{sized, netlistOf}
+use Rattle.netlist.specs.declared.Size.{Size}
 use Rattle.component.proofs.Facts.{row-parts, kind-le, row-facts}
 use Rattle.wiring.specs.Stages.{Kinds, wired, Wiring}
 use Rattle.wiring.specs.declared.Wired.{Wired}
 use Rattle.wiring.specs.declared.Wired.the-variants.{Sound, Unmatched, Circular}
 use Rattle.refusals.specs.Refusals.{firstRefusal}
-use Rattle.reader.specs.File.{headerFields, coloursIn, channelsIn, componentsIn, badRow, badRecord, firstBadRecord, headerTests, recordTests, wireTests}
-use Rattle.reader.specs.Reading.{readAs, reading}
+use Rattle.reader.specs.File.{headerFields, coloursIn, channelsIn, componentsIn, sizeIn, badRow, badRecord, firstBadRecord, headerTests, recordTests, wireTests}
+use Rattle.reader.specs.Reading.{readAs, reading, ReadOf}
 use Rattle.reader.specs.Stages.{headerRead, wiredVerdict, TableRead, Unpacking}
-use Rattle.reader.specs.Accepted.{AcceptedFabric, ReadOf}
+use Rattle.netlist.specs.Accepted.{AcceptedFabric}
 use Rattle.refusals.specs.declared.Refusal.{Refusal}
 use Rattle.refusals.specs.declared.Refusal.the-variants.{FileShort, WrongEdition, CountRange, WrongLength, ByteSum, BadField}
 use Rattle.refusals.specs.declared.Verdict.{Verdict}
@@ -36,13 +37,13 @@ use Rattle.refusals.proofs.Refusals.{andThen, refusal-append, cond-accepted}
 use Rattle.reader.proofs.Tests.{wire-tests, wrongEdition, wrongRange, or-false, colours-lt, channels-lt}
 
 -- ---- answers, taken apart
-pub read-fabric : (v : Verdict) (a b c : ℕ) {C M N : ℕ} → readAs v a b c ≡ Fabric C M N → (v ≡ Accepted) × (a ≡ C) × (b ≡ M) × (c ≡ N)
-read-fabric Accepted a b c e = (refl, cc, cc, cc)
-read-fabric (Refused r) a b c e = let z : _≡_ {A = ℕ} 0 1 = cc in absurd (omega arith)
+pub read-fabric : (v : Verdict) (t : Size) {s : Size} → readAs v t ≡ Fabric s → (v ≡ Accepted) × (t ≡ s)
+read-fabric Accepted t e = (refl, cc)
+read-fabric (Refused r) t e = let z : _≡_ {A = ℕ} 0 1 = cc in absurd (omega arith)
 
-pub read-rejected : (v : Verdict) (a b c : ℕ) {r : Refusal} → readAs v a b c ≡ Rejected r → v ≡ Refused r
-read-rejected Accepted a b c e = let z : _≡_ {A = ℕ} 0 1 = cc in absurd (omega arith)
-read-rejected (Refused q) a b c {r} e = let z : q ≡ r = cc in ap Refused z
+pub read-rejected : (v : Verdict) (t : Size) {r : Refusal} → readAs v t ≡ Rejected r → v ≡ Refused r
+read-rejected Accepted t e = let z : _≡_ {A = ℕ} 0 1 = cc in absurd (omega arith)
+read-rejected (Refused q) t {r} e = let z : q ≡ r = cc in ap Refused z
 
 wired-accepted : (w : Wired) → wiredVerdict w ≡ Accepted → w ≡ Sound
 wired-accepted Sound e = refl
@@ -66,28 +67,28 @@ module _ (colours channels n : ℕ) (file table : List ℕ) where
       (ltb-false (firstBadRecord colours channels file table n) n (s .0), s .1)
 
   module _ (bad : ℕ) (eb : bad ≡ firstBadRecord colours channels file table n) (answer : Reading) (ends order : List ℕ) where
-    pub table-field : bad < n → answer ≡ Rejected (BadField bad) → TableRead colours channels n file table answer ends order
+    pub table-field : bad < n → answer ≡ Rejected (BadField bad) → TableRead (sized colours channels n) file table answer ends order
     table-field h e = record {
       is = e ∙ rw (← eb, lt-ltb bad n h);
       rows = λ a k l. good-records (records-accepted a .0) k l .1;
       wires = λ a. absurd (omega (arith, records-accepted a .0));
     }
 
-    pub table-wired : n ≤ bad → (found : Wired) (v : Verdict) → Wiring table n channels found ends order → v ≡ wiredVerdict found → answer ≡ readAs v colours channels n
-        → TableRead colours channels n file table answer ends order
+    pub table-wired : n ≤ bad → (found : Wired) (v : Verdict) → Wiring table n channels found ends order → v ≡ wiredVerdict found → answer ≡ readAs v (sized colours channels n)
+        → TableRead (sized colours channels n) file table answer ends order
     table-wired h found v w ev ea =
         let passed : firstRefusal (recordTests colours channels file table n) ≡ firstRefusal (wireTests table n channels) = rw (← eb, le-ltb bad n h) in
         record {
-          is = ea ∙ ap (λ (x : Verdict). readAs x colours channels n) (ev ∙ ap wiredVerdict (w .is) ∙ wire-tests table n channels ∙ sym passed);
+          is = ea ∙ ap (λ (x : Verdict). readAs x (sized colours channels n)) (ev ∙ ap wiredVerdict (w .is) ∙ wire-tests table n channels ∙ sym passed);
           rows = λ a k l. good-records (records-accepted a .0) k l .1;
           wires = λ a. w .sound (wired-accepted (wired table n channels) (wire-tests table n channels ∙ records-accepted a .1));
         }
 
-pub rows-long : (C M N : ℕ) (file table : List ℕ) → Unpacking C M N file table → length table ≡ 24 * N
-rows-long C M N file table u = ap length (u .is) ∙ length-rows file N
+pub rows-long : (s : Size) (file table : List ℕ) → Unpacking s file table → length table ≡ 24 * s .components
+rows-long s file table u = ap length (u .is) ∙ length-rows file (s .components)
 
-pub rows-room : (C M N : ℕ) (file table : List ℕ) → Unpacking C M N file table → 24 * N ≤ length table
-rows-room C M N file table u = omega (arith, rows-long C M N file table u)
+pub rows-room : (s : Size) (file table : List ℕ) → Unpacking s file table → 24 * s .components ≤ length table
+rows-room s file table u = omega (arith, rows-long s file table u)
 
 -- ---- the header
 pub record HeaderFacts (h file : List ℕ) : Type 0 where
@@ -130,59 +131,60 @@ pub headed : (file : List ℕ) {h : List ℕ} {r x : Reading} → h ≡ headerFi
 headed f eh er ex = ap (λ (h : List ℕ). headerRead h f) (sym eh) ∙ sym er ∙ ex
 
 module _ (file : List ℕ) where
+  -- the tests of the records, with a header's numbers
+  abbrev recordsOf : Size → Verdict
+  recordsOf s = firstRefusal (recordTests (s .colours) (s .channels) file (openTable file (s .components)) (s .components))
+
   pub is-short : length file < 4 → reading file ≡ Rejected FileShort
   unfolding reading
   is-short l = rw (lt-ltb (length file) 4 l)
 
   module _ (l : 4 ≤ length file) where
-    pub reading-is : reading file
-        ≡ readAs (andThen (firstRefusal (headerTests (headerFields file) file)) (firstRefusal (recordTests (coloursIn (headerFields file)) (channelsIn (headerFields file)) file (openTable file (componentsIn (headerFields file))) (componentsIn (headerFields file)))))
-        (coloursIn (headerFields file)) (channelsIn (headerFields file)) (componentsIn (headerFields file))
+    pub reading-is : reading file ≡ readAs (andThen (firstRefusal (headerTests (headerFields file) file)) (recordsOf (sizeIn (headerFields file)))) (sizeIn (headerFields file))
     unfolding reading
     reading-is =
         let h : List ℕ = headerFields file in
-        ap (λ (v : Verdict). readAs v (coloursIn h) (channelsIn h) (componentsIn h))
-        (ap (λ (b : Bool). cond b (Refused FileShort) (firstRefusal (headerTests h file ++ recordTests (coloursIn h) (channelsIn h) file (openTable file (componentsIn h)) (componentsIn h)))) (le-ltb (length file) 4 l)
-        ∙ refusal-append (headerTests h file) (recordTests (coloursIn h) (channelsIn h) file (openTable file (componentsIn h)) (componentsIn h)))
+        let rest = recordTests (coloursIn h) (channelsIn h) file (openTable file (componentsIn h)) (componentsIn h) in
+        ap (λ (v : Verdict). readAs v (sizeIn h))
+        (ap (λ (b : Bool). cond b (Refused FileShort) (firstRefusal (headerTests h file ++ rest))) (le-ltb (length file) 4 l) ∙ refusal-append (headerTests h file) rest)
 
     pub is-rejected : (r : Refusal) → headerRead (headerFields file) file ≡ Rejected r → reading file ≡ Rejected r
     unfolding headerRead
-    is-rejected r e = reading-is ∙ rw (read-rejected (firstRefusal (headerTests (headerFields file) file)) _ _ _ e)
+    is-rejected r e = reading-is ∙ rw (read-rejected (firstRefusal (headerTests (headerFields file) file)) _ e)
 
     -- a file whose header is right
-    module _ (C M N : ℕ) (e : headerRead (headerFields file) file ≡ Fabric C M N) where
-      head : (firstRefusal (headerTests (headerFields file) file) ≡ Accepted) × (coloursIn (headerFields file) ≡ C) × (channelsIn (headerFields file) ≡ M) × (componentsIn (headerFields file) ≡ N)
+    module _ (s : Size) (e : headerRead (headerFields file) file ≡ Fabric s) where
+      head : (firstRefusal (headerTests (headerFields file) file) ≡ Accepted) × (sizeIn (headerFields file) ≡ s)
       unfolding headerRead
-      head = read-fabric (firstRefusal (headerTests (headerFields file) file)) _ _ _ e
+      head = read-fabric (firstRefusal (headerTests (headerFields file) file)) _ e
 
-      pub reading-rest : reading file ≡ readAs (firstRefusal (recordTests C M file (openTable file N) N)) C M N
-      reading-rest = reading-is ∙ rw (head .0, head .1, head .2, head .3)
+      pub reading-rest : reading file ≡ readAs (recordsOf s) s
+      reading-rest = reading-is ∙ ap₂ (λ (v : Verdict) (t : Size). readAs (andThen v (recordsOf t)) t) (head .0) (head .1)
 
-      pub header-few : (N ≤ 128) × (C ≤ 8) × (M ≤ 255) × (length file ≡ 4 + 13 * N) × (0 < C) × (0 < M) × (0 < N)
+      pub header-few : (s .components ≤ 128) × (s .colours ≤ 8) × (s .channels ≤ 255) × (length file ≡ 4 + 13 * s .components) × (0 < s .colours) × (0 < s .channels) × (0 < s .components)
       header-few =
           let f = header-facts (headerFields file) file (head .0) in
-          let a : coloursIn (headerFields file) ≡ C = head .1 in
-          let b : channelsIn (headerFields file) ≡ M = head .2 in
-          let c : componentsIn (headerFields file) ≡ N = head .3 in
+          let a : coloursIn (headerFields file) ≡ s .colours = ap (λ (t : Size). t .colours) (head .1) in
+          let b : channelsIn (headerFields file) ≡ s .channels = ap (λ (t : Size). t .channels) (head .1) in
+          let c : componentsIn (headerFields file) ≡ s .components = ap (λ (t : Size). t .components) (head .1) in
           let ca = colours-lt file in
           let cb = channels-lt file in
           (omega (arith, f .fewRows), omega arith, omega arith, omega (arith, f .long), omega arith, omega (arith, f .someChannels), omega (arith, f .someRows))
 
-      pub read-done : (before after table : List ℕ) (answer : Reading) (ends order : List ℕ) → after ≡ openTable file N ++ drop (24 * N) before → table ≡ openTable file N
-          → TableRead C M N file table answer ends order → ReadOf file before after answer ends order
+      pub read-done : (before after table : List ℕ) (answer : Reading) (ends order : List ℕ) → after ≡ openTable file (s .components) ++ drop (24 * s .components) before
+          → table ≡ openTable file (s .components) → TableRead s file table answer ends order → ReadOf file before after answer ends order
       read-done before after table answer ends order ea et t = record {
         is = t′ .is ∙ sym reading-rest;
-        table = λ C′ M′ N′ f. let q = read-fabric verdict C M N (sym reading-rest ∙ f) in subst (λ (k : ℕ). after ≡ openTable file k ++ drop (24 * k) before) (q .3) ea;
-        facts = λ C′ M′ N′ f. let q = read-fabric verdict C M N (sym reading-rest ∙ f) in rw (← q .1, ← q .2, ← q .3) (accepted (q .0));
+        table = λ z f. subst (λ (x : Size). after ≡ openTable file (x .components) ++ drop (24 * x .components) before) (read-fabric (recordsOf s) s (sym reading-rest ∙ f) .1) ea;
+        facts = λ z f.
+            let q = read-fabric (recordsOf s) s (sym reading-rest ∙ f) in
+            subst (λ (x : Size). AcceptedFabric (netlistOf x (openTable file (x .components))) ends order) (q .1) (accepted (q .0));
       }
         where
-          verdict : Verdict
-          verdict = firstRefusal (recordTests C M file (openTable file N) N)
+          t′ : TableRead s file (openTable file (s .components)) answer ends order
+          t′ = subst (λ (l : List ℕ). TableRead s file l answer ends order) et t
 
-          t′ : TableRead C M N file (openTable file N) answer ends order
-          t′ = subst (λ (l : List ℕ). TableRead C M N file l answer ends order) et t
-
-          accepted : firstRefusal (recordTests C M file (openTable file N) N) ≡ Accepted → AcceptedFabric (netlist C M N (openTable file N)) ends order
+          accepted : recordsOf s ≡ Accepted → AcceptedFabric (netlistOf s (openTable file (s .components))) ends order
           accepted a =
               let w = header-few in
               record {
@@ -192,8 +194,8 @@ module _ (file : List ℕ) where
                 fewChannels = w .2;
                 someRows = w .6;
                 fewRows = w .0;
-                long = length-rows file N;
-                rows = λ k h. row-facts C M (row (openTable file N) k) (w .4) (w .1) (w .5) (mask-byte file N k h) (t′ .rows a k h);
+                long = length-rows file (s .components);
+                rows = λ k h. row-facts (s .colours) (s .channels) (row (openTable file (s .components)) k) (w .4) (w .1) (w .5) (mask-byte file (s .components) k h) (t′ .rows a k h);
                 wires = t′ .wires a;
               }
 
@@ -201,11 +203,11 @@ module _ (file : List ℕ) where
 pub read-refused : (file before after : List ℕ) (answer : Reading) (ends order : List ℕ) (r : Refusal) → reading file ≡ Rejected r → answer ≡ Rejected r → ReadOf file before after answer ends order
 read-refused file before after answer ends order r e a = record {
   is = a ∙ sym e;
-  table = λ C M N f. absurd (apart (sym e ∙ f));
-  facts = λ C M N f. absurd (apart (sym e ∙ f));
+  table = λ s f. absurd (apart (sym e ∙ f));
+  facts = λ s f. absurd (apart (sym e ∙ f));
 }
   where
-    apart : {C M N : ℕ} → Rejected r ≡ Fabric C M N → ⊥
+    apart : {s : Size} → Rejected r ≡ Fabric s → ⊥
     apart q = let z : _≡_ {A = ℕ} 0 1 = cc in absurd (omega arith)
 
 -- the rows stand in front

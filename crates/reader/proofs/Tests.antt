@@ -16,7 +16,7 @@ use Rattle.wiring.specs.Stages.{wired}
 use Rattle.wiring.specs.declared.Wired.the-variants.{Sound, Unmatched, Circular}
 use Rattle.order.specs.Graph.{hasCircle}
 use Rattle.refusals.specs.Refusals.{firstRefusal}
-use Rattle.reader.specs.File.{headerFields, wireTests}
+use Rattle.reader.specs.File.{headerFields, sizeIn, wireTests}
 use Rattle.reader.specs.Stages.{headerRead, wiredVerdict}
 use Rattle.refusals.specs.declared.Refusal.the-variants.{WrongEdition, CountRange, WrongLength, ByteSum, ChannelEnds, Circle}
 use Rattle.refusals.specs.declared.Verdict.the-variants.{Accepted, Refused}
@@ -57,7 +57,7 @@ module _ (h file : List ℕ) where
       unfolding headerRead
       is-sum n = rw (e₁, e₂, eq-eqb (length file) (4 + 13 * getD h 3 0) l, ← es, ne-eqb s 0 n)
 
-      pub is-right : s ≡ 0 → Fabric (getD h 1 0 + 1) (getD h 4 0) (getD h 3 0) ≡ headerRead h file
+      pub is-right : s ≡ 0 → Fabric (sizeIn h) ≡ headerRead h file
       unfolding headerRead
       is-right z = rw (e₁, e₂, eq-eqb (length file) (4 + 13 * getD h 3 0) l, ← es, eq-eqb s 0 z)
 

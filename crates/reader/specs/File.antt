@@ -11,6 +11,8 @@ use Rattle.order.specs.Graph.{hasCircle}
 use Rattle.record.specs.Record.{recordPad}
 use Rattle.record.specs.Table.{row, recordAt, openTable}
 use Rattle.component.specs.Row.{rowOk}
+use Rattle.netlist.specs.Netlist.{Netlist, sized, netlistOf}
+use Rattle.netlist.specs.declared.Size.{Size}
 use Rattle.wiring.specs.Ends.{firstUnmatched}
 use Rattle.wiring.specs.Signals.{dependence}
 use Rattle.refusals.specs.Refusals.{Test, test}
@@ -31,6 +33,13 @@ componentsIn h = getD h 3 0
 
 abbrev pub channelsIn : List ℕ → ℕ
 channelsIn h = getD h 4 0
+
+abbrev pub sizeIn : List ℕ → Size
+sizeIn h = sized (coloursIn h) (channelsIn h) (componentsIn h)
+
+-- the netlist of a file
+unfoldable pub netlistIn : List ℕ → Netlist
+netlistIn file = let s : Size = sizeIn (headerFields file) in netlistOf s (openTable file (s .components))
 
 -- 6 a field, or a row's kind above 7 (lowest component)
 abbrev pub badRow : ℕ → ℕ → List ℕ → ℕ → Bool

@@ -1,4 +1,3 @@
 pub mod File
 pub mod Reading
-pub mod Accepted
 pub mod Stages

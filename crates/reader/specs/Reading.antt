@@ -1,30 +1,42 @@
 -- What reading a file comes to.
-use Prim.Native.Nat.{ℕ}
-use mathlib.Core.List.{List}
+use mathlib.Core.Path.{_≡_}
+use Prim.Native.Nat.{ℕ, _*_}
+use mathlib.Core.List.{List, _++_}
+use lib.ListN.{drop}
+use Rattle.record.specs.Table.{openTable}
+use Rattle.netlist.specs.Netlist.{netlistOf}
+use Rattle.netlist.specs.Accepted.{AcceptedFabric}
+use Rattle.netlist.specs.declared.Size.{Size}
 use Rattle.refusals.specs.Refusals.{firstRefusal}
-use Rattle.reader.specs.File.{headerFields, coloursIn, componentsIn, channelsIn, fileTests}
+use Rattle.reader.specs.File.{headerFields, sizeIn, fileTests}
 use Rattle.refusals.specs.declared.Verdict.{Verdict}
 use Rattle.refusals.specs.declared.Verdict.the-variants.{Accepted, Refused}
 use Rattle.reader.specs.declared.Reading.{Reading}
 use Rattle.reader.specs.declared.Reading.the-variants.{Fabric, Rejected}
 
 -- what reading comes to: C, M and N, or a refusal
-abbrev pub readAs : Verdict → ℕ → ℕ → ℕ → Reading
-readAs Accepted colours channels n = Fabric colours channels n
-readAs (Refused r) colours channels n = Rejected r
+abbrev pub readAs : Verdict → Size → Reading
+readAs Accepted size = Fabric size
+readAs (Refused r) size = Rejected r
 
 abbrev pub verdictOf : Reading → Verdict
-verdictOf (Fabric colours channels n) = Accepted
+verdictOf (Fabric size) = Accepted
 verdictOf (Rejected r) = Refused r
 
 -- any other number that a refused call hands back (C, M) is 0
 abbrev pub coloursOf : Reading → ℕ
-coloursOf (Fabric colours channels n) = colours
+coloursOf (Fabric size) = size .colours
 coloursOf (Rejected r) = 0
 
 abbrev pub channelsOf : Reading → ℕ
-channelsOf (Fabric colours channels n) = channels
+channelsOf (Fabric size) = size .channels
 channelsOf (Rejected r) = 0
 
 unfoldable pub reading : List ℕ → Reading
-reading file = let h : List ℕ = headerFields file in readAs (firstRefusal (fileTests file)) (coloursIn h) (channelsIn h) (componentsIn h)
+reading file = readAs (firstRefusal (fileTests file)) (sizeIn (headerFields file))
+
+-- what read gives: the answer, and of an accepted file its open table in front of what stood there, and its facts
+pub record ReadOf (file before after : List ℕ) (answer : Reading) (ends order : List ℕ) : Type 0 where
+  pub is : answer ≡ reading file
+  pub table : (s : Size) → reading file ≡ Fabric s → after ≡ openTable file (s .components) ++ drop (24 * s .components) before
+  pub facts : (s : Size) → reading file ≡ Fabric s → AcceptedFabric (netlistOf s (openTable file (s .components))) ends order

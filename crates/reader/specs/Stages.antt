@@ -10,7 +10,8 @@ use Rattle.wiring.specs.Sound.{SoundWires}
 use Rattle.wiring.specs.declared.Wired.{Wired}
 use Rattle.wiring.specs.declared.Wired.the-variants.{Sound, Unmatched, Circular}
 use Rattle.refusals.specs.Refusals.{firstRefusal}
-use Rattle.reader.specs.File.{headerTests, recordTests, coloursIn, channelsIn, componentsIn}
+use Rattle.netlist.specs.declared.Size.{Size}
+use Rattle.reader.specs.File.{headerTests, recordTests, sizeIn}
 use Rattle.reader.specs.Reading.{readAs}
 use Rattle.refusals.specs.declared.Refusal.the-variants.{ChannelEnds, Circle}
 use Rattle.refusals.specs.declared.Verdict.{Verdict}
@@ -24,21 +25,22 @@ wiredVerdict Circular = Refused Circle
 
 -- after the header: C, M and N, or a refusal of 2 to 5
 unfoldable pub headerRead : List ℕ → List ℕ → Reading
-headerRead h file = readAs (firstRefusal (headerTests h file)) (coloursIn h) (channelsIn h) (componentsIn h)
+headerRead h file = readAs (firstRefusal (headerTests h file)) (sizeIn h)
 
 -- after the records: refusals 6 to 8
-pub record TableRead (colours channels n : ℕ) (file table : List ℕ) (answer : Reading) (ends order : List ℕ) : Type 0 where
-  pub is : answer ≡ readAs (firstRefusal (recordTests colours channels file table n)) colours channels n
-  pub rows : firstRefusal (recordTests colours channels file table n) ≡ Accepted → (k : ℕ) → k < n → rowOk colours channels (row table k) ≡ true
-  pub wires : firstRefusal (recordTests colours channels file table n) ≡ Accepted → SoundWires table n channels ends order
+pub record TableRead (s : Size) (file table : List ℕ) (answer : Reading) (ends order : List ℕ) : Type 0 where
+  pub is : answer ≡ readAs (firstRefusal (recordTests (s .colours) (s .channels) file table (s .components))) s
+  pub rows : firstRefusal (recordTests (s .colours) (s .channels) file table (s .components)) ≡ Accepted
+      → (k : ℕ) → k < s .components → rowOk (s .colours) (s .channels) (row table k) ≡ true
+  pub wires : firstRefusal (recordTests (s .colours) (s .channels) file table (s .components)) ≡ Accepted → SoundWires table (s .components) (s .channels) ends order
 
 -- a file whose header is right, and the rows of its records
-pub record Unpacking (colours channels n : ℕ) (file table : List ℕ) : Type 0 where
-  pub few : n ≤ 128
-  pub fewColours : colours ≤ 8
-  pub fewChannels : channels ≤ 255
-  pub long : length file ≡ 4 + 13 * n
-  pub is : table ≡ openTable file n
+pub record Unpacking (s : Size) (file table : List ℕ) : Type 0 where
+  pub few : s .components ≤ 128
+  pub fewColours : s .colours ≤ 8
+  pub fewChannels : s .channels ≤ 255
+  pub long : length file ≡ 4 + 13 * s .components
+  pub is : table ≡ openTable file (s .components)
 
 -- the room for the ends and the order, as it is lent
 pub record Cleared (ends order : List ℕ) : Type 0 where

@@ -5,19 +5,15 @@ ghost use lib.ListN.{length, getD};
 ghost use Rattle.digits.specs.Least.{least};
 ghost use Rattle.digits.specs.Packed.{fields};
 ghost use Rattle.reader.specs.File.{badPad, firstBadRow, headerWidths, headerFields, badRow, firstBadRecord};
-ghost use Rattle.reader.specs.Reading.{readAs, verdictOf, coloursOf, channelsOf, reading};
-ghost use Rattle.reader.specs.Accepted.{ReadOf};
+ghost use Rattle.reader.specs.Reading.{readAs, verdictOf, coloursOf, channelsOf, reading, ReadOf};
 ghost use Rattle.reader.specs.Stages.{headerRead, wiredVerdict, TableRead, Unpacking, Cleared};
+use netlist::Size;
 use refusals::Refusal;
 use refusals::Verdict;
 
 // What reading a file comes to.
 pub enum Reading {
-    Fabric {
-        colours: u8,
-        channels: u8,
-        components: u8,
-    },
+    Fabric(Size),
     Rejected(Refusal),
 }
 
@@ -25,50 +21,34 @@ pub fn verdict_of(r: Reading) -> Verdict
     ensures { λ v. ⌜ v ≡ verdictOf r ⌝ }
 {
     match r {
-        Reading::Fabric {
-            colours: _,
-            channels: _,
-            components: _,
-        } => Verdict::Accepted,
+        Reading::Fabric(_size) => Verdict::Accepted,
         Reading::Rejected(e) => Verdict::Refused(e),
     }
 }
 
-pub fn colours_of(r: Reading) -> u8
+pub fn colours_of(r: Reading) -> usize
     ensures { λ n. ⌜ n ≡ coloursOf r ⌝ }
 {
     match r {
-        Reading::Fabric {
-            colours,
-            channels: _,
-            components: _,
-        } => colours,
-        Reading::Rejected(_) => 0,
+        Reading::Fabric(size) => size.colours,
+        Reading::Rejected(_e) => 0,
     }
 }
 
-pub fn channels_of(r: Reading) -> u8
+pub fn channels_of(r: Reading) -> usize
     ensures { λ n. ⌜ n ≡ channelsOf r ⌝ }
 {
     match r {
-        Reading::Fabric {
-            colours: _,
-            channels,
-            components: _,
-        } => channels,
-        Reading::Rejected(_) => 0,
+        Reading::Fabric(size) => size.channels,
+        Reading::Rejected(_e) => 0,
     }
 }
 
-pub fn read_as(v: Verdict, colours: u8, channels: u8, components: u8) -> Reading
-    ensures { λ r. ⌜ r ≡ readAs v colours channels components ⌝ }
+pub fn read_as(v: Verdict, size: Size) -> Reading
+    ensures { λ r. ⌜ r ≡ readAs v size ⌝ }
 {
     match v {
-        Verdict::Accepted => Reading::Fabric {
-            colours,
-            channels,
-            components,
-        },
+        Verdict::Accepted => Reading::Fabric(size),
         Verdict::Refused(e) => Reading::Rejected(e),
     }
 }
@@ -108,27 +88,29 @@ fn read_header(h: [u8; 6], file: &[u8]) -> Reading
     requires { ⌜ getD h 1 0 < 8 ⌝ }
     ensures { λ r. ⌜ r ≡ headerRead h (now (file .entry)) ⌝ }
 {
-    let colours = h[1] + 1;
-    let components = h[3];
-    let channels = h[4];
-    let n = components as usize;
+    let c = h[1];
+    let n = h[3];
+    let m = h[4];
+    let colours = c as usize + 1;
+    let components = n as usize;
+    let channels = m as usize;
     if (h[0] != 1) | (h[2] != 0) {
         return Reading::Rejected(Refusal::WrongEdition);
     }
     if (components == 0) | (128 < components) | (channels == 0) {
         return Reading::Rejected(Refusal::CountRange);
     }
-    if file.len() != 4 + 13 * n {
+    if file.len() != 4 + 13 * components {
         return Reading::Rejected(Refusal::WrongLength);
     }
     if digits::byte_sum(file) != 0 {
         return Reading::Rejected(Refusal::ByteSum);
     }
-    Reading::Fabric {
+    Reading::Fabric(Size {
         colours,
         channels,
         components,
-    }
+    })
 }
 
 // Whether row k of a table is wrong.
@@ -181,22 +163,21 @@ fn first_bad_record(file: &[u8], table: &[u8], n: usize, colours: u8, channels: 
 fn read_table(
     file: &[u8],
     table: &[u8],
-    colours: u8,
-    channels: u8,
-    components: u8,
+    size: Size,
     ends: &mut [u16],
     order: &mut [u16; 510],
 ) -> Reading
-    requires { ⌜ Unpacking colours channels components (now file) (now table) × Cleared (now ends) (now order) ⌝ }
-    ensures { λ r. ⌜ TableRead colours channels components (now (file .entry)) (now (table .entry)) r (now (ends .exit)) (now (order .exit)) ⌝ }
+    requires { ⌜ Unpacking size (now file) (now table) × Cleared (now ends) (now order) ⌝ }
+    ensures { λ r. ⌜ TableRead size (now (file .entry)) (now (table .entry)) r (now (ends .exit)) (now (order .exit)) ⌝ }
 {
-    let n = components as usize;
-    let bad = first_bad_record(file, table, n, colours, channels);
+    let n = size.components;
+    let m = size.channels;
+    let bad = first_bad_record(file, table, n, size.colours as u8, m as u8);
     if bad < n {
         return Reading::Rejected(Refusal::BadField(bad));
     }
-    let found = wiring::wire(table, n, channels as usize, &mut *ends, &mut *order);
-    read_as(wired_verdict(found), colours, channels, components)
+    let found = wiring::wire(table, n, m, &mut *ends, &mut *order);
+    read_as(wired_verdict(found), size)
 }
 
 // Reads a file: the refusals 1 to 8. Of an accepted one it lays down the rows, 1 + the end that gives each signal, and an order of
@@ -210,23 +191,11 @@ pub fn read(file: &[u8], table: &mut [u8], ends: &mut [u16], order: &mut [u16; 5
     }
     match read_header(header(file), file) {
         Reading::Rejected(e) => Reading::Rejected(e),
-        Reading::Fabric {
-            colours,
-            channels,
-            components,
-        } => {
-            let n = components as usize;
+        Reading::Fabric(size) => {
+            let n = size.components;
             record::put_rows(file, n, &mut *table);
             let end = 24 * n;
-            read_table(
-                file,
-                &table[..end],
-                colours,
-                channels,
-                components,
-                &mut *ends,
-                &mut *order,
-            )
+            read_table(file, &table[..end], size, &mut *ends, &mut *order)
         }
     }
 }

@@ -62,3 +62,8 @@ pub data Test : Type 0 where
 abbrev pub firstRefusal : List Test → Verdict
 firstRefusal [] = Accepted
 firstRefusal (test r met ∷ ts) = cond met (Refused r) (firstRefusal ts)
+
+-- Lent memory keeps its former bytes where the call is refused.
+abbrev pub kept : Verdict → List ℕ → List ℕ → List ℕ
+kept Accepted new old = new
+kept (Refused r) new old = old

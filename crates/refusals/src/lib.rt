@@ -1,6 +1,7 @@
 // Why a call is refused, of all calls of the product, and what that is in numbers.
 ghost use mathlib.Core.Path.{_≡_};
 ghost use Rattle.refusals.specs.Refusals.{refusalNumber, refusalPlace, numberOf, placeOf};
+ghost use Rattle.refusals.specs.Room.{roomFor};
 
 // Why a call is refused, of all calls of the product.
 pub enum Refusal {
@@ -94,5 +95,18 @@ pub fn place_of(v: Verdict) -> usize
     match v {
         Verdict::Accepted => 0,
         Verdict::Refused(r) => refusal_place(r),
+    }
+}
+
+// The verdict with so much space for what needs so much.
+pub fn room_for(v: Verdict, space: usize, need: usize) -> Verdict
+    ensures { λ r. ⌜ r ≡ roomFor v space need ⌝ }
+{
+    if need <= space {
+        return v;
+    }
+    match v {
+        Verdict::Accepted => Verdict::Refused(Refusal::ResultSpace),
+        Verdict::Refused(first) => Verdict::Refused(first),
     }
 }

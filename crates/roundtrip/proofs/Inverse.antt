@@ -21,14 +21,15 @@ use Rattle.record.proofs.Record.{row-back, pad-back, bytes-back, record-part}
 use Rattle.record.proofs.Table.{row-length, row-at, row-open, length-records, record-in}
 use Rattle.component.proofs.Facts.{row-fits}
 use Rattle.refusals.specs.Refusals.{test, firstRefusal}
-use Rattle.reader.specs.File.{headerWidths, headerFields, coloursIn, channelsIn, componentsIn, badRow, badRecord, firstBadRow, firstBadRecord, recordTests, wireTests, fileTests}
+use Rattle.reader.specs.File.{headerWidths, headerFields, coloursIn, channelsIn, componentsIn, badRow, badRecord, firstBadRow, firstBadRecord, recordTests, wireTests}
 use Rattle.fabric.specs.PackedFile.{headerBytes, packedFile}
 use Rattle.reader.specs.Reading.{reading}
-use Rattle.reader.proofs.Accepted.{accepted-header, accepted-parts, accepted-records, accepted-long}
+use Rattle.reader.proofs.Accepted.{accepted-header, accepted-size, accepted-records, accepted-long}
 use Rattle.reader.specs.Stages.{headerRead}
 use Rattle.fabric.specs.Stages.{tableVerdict}
 use Rattle.refusals.specs.declared.Refusal.the-variants.{BadField}
 use Rattle.refusals.specs.declared.Verdict.the-variants.{Accepted}
+use Rattle.netlist.specs.Netlist.{sized}
 use Rattle.reader.specs.declared.Reading.the-variants.{Fabric}
 use Rattle.reader.proofs.Tests.{wrongRange, is-right, colours-lt, channels-lt}
 use Rattle.refusals.proofs.Refusals.{cond-accepted}
@@ -118,33 +119,33 @@ module _ (C M N : ℕ) (t : List ℕ) (i : Inside C M N) (long : length t ≡ 24
   first-same = least-same _ _ N same-test
 
   -- a file that pack wrote is read with the same counts
-  pub reading-back : reading (packedFile C M t N) ≡ Fabric C M N
+  pub reading-back : reading (packedFile C M t N) ≡ Fabric (sized C M N)
   reading-back =
       let f : List ℕ = packedFile C M t N in
       let h : List ℕ = 1 ∷ (C - 1) ∷ 0 ∷ N ∷ M ∷ check ∷ [] in
       let c : C - 1 + 1 ≡ C = omega (arith, i .someColours) in
       let e₂ : wrongRange h ≡ false = rw (ne-eqb N 0 (λ q. absurd (omega (arith, i .someRows))), le-ltb 128 N (i .fewRows), ne-eqb M 0 (λ q. absurd (omega (arith, i .someChannels)))) in
-      let head : headerRead (headerFields f) f ≡ Fabric C M N =
-      ap (λ (l : List ℕ). headerRead l f) header-back ∙ sym (is-right h f refl e₂ length-packed 0 (sym sum-back) refl) ∙ ap (λ (x : ℕ). Fabric x M N) c in
+      let head : headerRead (headerFields f) f ≡ Fabric (sized C M N) =
+      ap (λ (l : List ℕ). headerRead l f) header-back ∙ sym (is-right h f refl e₂ length-packed 0 (sym sum-back) refl) ∙ ap (λ (x : ℕ). Fabric (sized x M N)) c in
       let tests : firstRefusal (recordTests C M f t N) ≡ Accepted = rw first-same verdict in
-      reading-rest f (omega (arith, length-packed)) C M N head ∙ rw (table-back, tests)
+      reading-rest f (omega (arith, length-packed)) (sized C M N) head ∙ rw (table-back, tests)
 
 -- ---- a file, read and packed
-module _ (f : List ℕ) (C M N : ℕ) (byte : (k : ℕ) → getD f k 0 < 256) (e : reading f ≡ Fabric C M N) where
+module _ (f : List ℕ) (C M N : ℕ) (byte : (k : ℕ) → getD f k 0 < 256) (e : reading f ≡ Fabric (sized C M N)) where
   facts : HeaderFacts (headerFields f) f
   facts = accepted-header f e
 
-  counts : (firstRefusal (fileTests f) ≡ Accepted) × (coloursIn (headerFields f) ≡ C) × (channelsIn (headerFields f) ≡ M) × (componentsIn (headerFields f) ≡ N)
-  counts = accepted-parts f e
+  counts : (coloursIn (headerFields f) ≡ C) × (channelsIn (headerFields f) ≡ M) × (componentsIn (headerFields f) ≡ N)
+  counts = accepted-size f e
 
   pub file-long : length f ≡ 4 + 13 * N
   file-long = accepted-long f e .0
 
   pub inside-back : Inside C M N
   inside-back =
-      let a : coloursIn (headerFields f) ≡ C = counts .1 in
-      let b : channelsIn (headerFields f) ≡ M = counts .2 in
-      let c : componentsIn (headerFields f) ≡ N = counts .3 in
+      let a : coloursIn (headerFields f) ≡ C = counts .0 in
+      let b : channelsIn (headerFields f) ≡ M = counts .1 in
+      let c : componentsIn (headerFields f) ≡ N = counts .2 in
       let p = colours-lt f in
       let q = channels-lt f in
       record {
@@ -189,9 +190,9 @@ module _ (f : List ℕ) (C M N : ℕ) (byte : (k : ℕ) → getD f k 0 < 256) (e
   header-list : 1 ∷ (C - 1) ∷ 0 ∷ N ∷ M ∷ getD (headerFields f) 5 0 ∷ [] ≡ headerFields f
   unfolding headerFields
   header-list =
-      let a : coloursIn (headerFields f) ≡ C = counts .1 in
+      let a : coloursIn (headerFields f) ≡ C = counts .0 in
       let c : C - 1 ≡ getD (headerFields f) 1 0 = omega arith in
-      ap₂ _∷_ (sym (facts .edition .0)) (ap₂ _∷_ c (ap₂ _∷_ (sym (facts .edition .1)) (ap₂ _∷_ (sym (counts .3)) (ap₂ _∷_ (sym (counts .2)) refl))))
+      ap₂ _∷_ (sym (facts .edition .0)) (ap₂ _∷_ c (ap₂ _∷_ (sym (facts .edition .1)) (ap₂ _∷_ (sym (counts .2)) (ap₂ _∷_ (sym (counts .1)) refl))))
 
   header-same : headerBytes C N M (getD (headerFields f) 5 0) ≡ take 4 f
   unfolding headerBytes headerFields

@@ -9,16 +9,23 @@ use borrow.Author.Tests.{ne-eqb, le-ltb}
 use Rattle.record.specs.Table.{openTable}
 use Rattle.record.proofs.Table.{length-rows}
 use Rattle.fabric.specs.PackedFile.{packedFile}
-use Rattle.reader.specs.Reading.{readAs, verdictOf, reading}
+use Rattle.netlist.specs.Netlist.{sized}
+use Rattle.netlist.specs.declared.Size.{Size}
+use Rattle.reader.specs.Reading.{readAs, verdictOf, coloursOf, channelsOf, reading}
+use Rattle.reader.specs.declared.Reading.{Reading}
 use Rattle.fabric.specs.Calls.{unpacked, packed}
-use Rattle.fabric.specs.Stages.{roomFor}
+use Rattle.refusals.specs.Room.{roomFor}
 use Rattle.roundtrip.specs.RoundTrip.{Bytes, fileOf, RoundTripFile, RoundTripTable, WrittenAccepted, OneFile, OneTable}
 use Rattle.refusals.specs.declared.Verdict.{Verdict}
 use Rattle.refusals.specs.declared.Verdict.the-variants.{Accepted, Refused}
-use Rattle.reader.specs.declared.Reading.the-variants.{Fabric}
+use Rattle.reader.specs.declared.Reading.the-variants.{Fabric, Rejected}
 use Rattle.fabric.proofs.Unpacked.{unpacked-fabric, table-of}
 use Rattle.fabric.proofs.Writing.{outside, Inside, is-judged, PackFacts, pack-accepted, file-of}
 use Rattle.roundtrip.proofs.Inverse.{reading-back, table-back, file-back, file-long, inside-back, verdict-back}
+
+abbrev componentsOf : Reading → ℕ
+componentsOf (Fabric s) = s .components
+componentsOf (Rejected r) = 0
 
 -- ---- an accepted table
 module _ (C M : ℕ) (t : List ℕ) (byte : Bytes t) (given : ℕ) (a : packed C M t given ≡ Accepted) where
@@ -28,35 +35,35 @@ module _ (C M : ℕ) (t : List ℕ) (byte : Bytes t) (given : ℕ) (a : packed C
   long : length t ≡ 24 * (length t / 24)
   long = omega (arith, facts .even)
 
-  read-back : reading (fileOf C M t) ≡ Fabric C M (length t / 24)
+  read-back : reading (fileOf C M t) ≡ Fabric (sized C M (length t / 24))
   read-back = reading-back C M (length t / 24) t (facts .inside) long byte (facts .verdict)
 
   open-back : openTable (fileOf C M t) (length t / 24) ≡ t
   open-back = table-back C M (length t / 24) t (facts .inside) long byte (facts .verdict)
 
-  unpacked-back : (space : ℕ) → unpacked (fileOf C M t) space ≡ readAs (roomFor Accepted space (24 * (length t / 24))) C M (length t / 24)
-  unpacked-back space = sym (unpacked-fabric (fileOf C M t) read-back space _ refl)
+  unpacked-back : (space : ℕ) → unpacked (fileOf C M t) space ≡ readAs (roomFor Accepted space (24 * (length t / 24))) (sized C M (length t / 24))
+  unpacked-back space = sym (unpacked-fabric (fileOf C M t) read-back space)
 
-verdict-read : (v : Verdict) (a b c : ℕ) → verdictOf (readAs v a b c) ≡ v
-verdict-read Accepted a b c = refl
-verdict-read (Refused r) a b c = refl
+verdict-read : (v : Verdict) (s : Size) → verdictOf (readAs v s) ≡ v
+verdict-read Accepted s = refl
+verdict-read (Refused r) s = refl
 
 pub writtenAccepted : WrittenAccepted
-writtenAccepted C M t byte given a space = ap verdictOf (unpacked-back C M t byte given a space) ∙ verdict-read (roomFor Accepted space (24 * (length t / 24))) C M (length t / 24)
+writtenAccepted C M t byte given a space = ap verdictOf (unpacked-back C M t byte given a space) ∙ verdict-read (roomFor Accepted space (24 * (length t / 24))) (sized C M (length t / 24))
 
 pub roundTripTable : RoundTripTable
 roundTripTable C M t byte given a space h =
     let n : ℕ = length t / 24 in
     let l = long C M t byte given a in
-    let e : unpacked (fileOf C M t) (length space) ≡ Fabric C M n = unpacked-back C M t byte given a (length space) ∙ rw (le-ltb (length space) (24 * n) (omega arith)) in
+    let e : unpacked (fileOf C M t) (length space) ≡ Fabric (sized C M n) = unpacked-back C M t byte given a (length space) ∙ rw (le-ltb (length space) (24 * n) (omega arith)) in
     (e, sym (table-of (fileOf C M t) space _ (sym e)) ∙ ap₂ (λ (x : List ℕ) (k : ℕ). x ++ drop k space) (open-back C M t byte given a) (sym l))
 
 pub oneTable : OneTable
 oneTable C M C′ M′ t u bt bu g g′ a b e =
     let f = ap reading e in
-    let r : Fabric C M (length t / 24) ≡ Fabric C′ M′ (length u / 24) = sym (read-back C M t bt g a) ∙ f ∙ read-back C′ M′ u bu g′ b in
-    let n : length t / 24 ≡ length u / 24 = cc in
-    (cc, cc, sym (open-back C M t bt g a) ∙ ap₂ openTable e n ∙ open-back C′ M′ u bu g′ b)
+    let r = sym (read-back C M t bt g a) ∙ f ∙ read-back C′ M′ u bu g′ b in
+    let n : length t / 24 ≡ length u / 24 = ap componentsOf r in
+    (ap coloursOf r, ap channelsOf r, sym (open-back C M t bt g a) ∙ ap₂ openTable e n ∙ open-back C′ M′ u bu g′ b)
 
 -- ---- an accepted file
 not-outside : (C M N : ℕ) → Inside C M N → outside C M N ≡ false

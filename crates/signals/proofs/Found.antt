@@ -5,23 +5,24 @@ use mathlib.Core.List.{List, _++_}
 use Prim.Native.Nat.{ℕ, _+_, _*_, _/_, _%_, _≤_, _<_}
 use native.Mathlib.Decide.{ℕ-discrete}
 use native.Mathlib.Omega.{arith}
-use lib.ListN.{length, getD, set, take, drop, length-set}
+use lib.ListN.{length, getD, set, drop, length-set}
 use lib.Seq.{getD-set-same, getD-set-other, drop-set-lt}
 use Rattle.digits.specs.UpTo.{upTo}
 use Rattle.digits.proofs.UpTo.{filled-at, filled-is, filled-rest}
 use Rattle.component.specs.Kind.{Kind, source, sink, queue, function, fork, join, switch, merge, Port, A, B, C, kindOf, portOf, Use, input, output, unused, portUse, isInput, isUsed}
 use Rattle.component.specs.Row.{kindNumber, kind, port}
-use Rattle.component.specs.Netlist.{Netlist, rowOf}
+use Rattle.netlist.specs.Netlist.{Netlist, rowOf}
 use Rattle.wiring.specs.Ends.{endPort, onSide}
 use Rattle.wiring.specs.Signals.{Near, offerA, offerB, takeB, takeC, isOffer, endOf}
-use Rattle.rules.specs.Rules.{Component, componentWith, rule}
+use Rattle.rules.specs.Rules.{Component, rule}
 use Rattle.rules.specs.Seen.{ruleNumbered, useOf}
 use Rattle.rules.proofs.Rules.{reads-only}
 use Rattle.rules.proofs.Bounds.{when-le, unless-le, either-le, offered-le, bit-le}
-use Rattle.reader.specs.Accepted.{AcceptedFabric}
+use Rattle.netlist.specs.Accepted.{AcceptedFabric}
 use Rattle.plan.specs.Plan.{planField, Planned}
 use Rattle.plan.proofs.Plan.{owner}
-use Rattle.signals.specs.Signals.{cell, componentAt, near, value}
+use Rattle.cells.specs.Cells.{cell}
+use Rattle.signals.specs.Signals.{componentAt, near, value}
 use Rattle.signals.specs.Signals as signals
 use Rattle.signals.specs.Channels.{seenAt, There, Readable}
 use Rattle.signals.proofs.Signals.{value-next}

@@ -6,7 +6,7 @@ use native.Mathlib.Omega.{arith}
 use lib.ListN.{getD}
 use Rattle.digits.specs.UpTo.{upTo}
 use Rattle.digits.proofs.UpTo.{upTo-cong, filled-at}
-use Rattle.component.specs.Netlist.{Netlist}
+use Rattle.netlist.specs.Netlist.{Netlist}
 use Rattle.signals.specs.Signals.{value, moved, moves}
 use Rattle.signals.specs.Channels.{movedIn}
 

@@ -5,7 +5,7 @@ use mathlib.Core.List.{List}
 use Prim.Native.Nat.{ℕ, _+_, _*_, _≤_, _<_}
 use lib.ListN.{length, getD}
 use Rattle.component.specs.Kind.{isUsed}
-use Rattle.component.specs.Netlist.{Netlist}
+use Rattle.netlist.specs.Netlist.{Netlist}
 use Rattle.wiring.specs.Signals.{Near}
 use Rattle.rules.specs.Rules.{when, componentWith}
 use Rattle.rules.specs.Seen.{seen, ruleNumbered, useOf}

@@ -2,20 +2,17 @@
 use mathlib.Core.List.{List}
 use Prim.Native.Nat.{ℕ, zero, suc, _+_, _*_, _/_}
 use mathlib.Core.Bool.{cond}
-use lib.ListN.{getD, take, drop}
+use lib.ListN.{getD}
 use lib.Dec.{eqb}
 use Rattle.digits.specs.UpTo.{upTo}
 use Rattle.order.specs.Values.{val}
 use Rattle.component.specs.Kind.{Port}
 use Rattle.component.specs.Row.{kind}
-use Rattle.component.specs.Netlist.{Netlist, rowOf}
+use Rattle.netlist.specs.Netlist.{Netlist, rowOf}
 use Rattle.wiring.specs.Ends.{endPort}
 use Rattle.wiring.specs.Signals.{Near, signalOf, endOf}
+use Rattle.cells.specs.Cells.{cell}
 use Rattle.rules.specs.Rules.{Component, componentWith, rule, when}
-
--- 64 bytes a component
-abbrev pub cell : List ℕ → ℕ → List ℕ
-cell state k = take 64 (drop (64 * k) state)
 
 abbrev pub componentAt : Netlist → List ℕ → List ℕ → ℕ → Component
 componentAt f state choices k = componentWith (rowOf f k) (cell state k) (getD choices k 0)

@@ -5,12 +5,12 @@ ghost use mathlib.Core.List.{_++_};
 ghost use Prim.Native.Nat.{_+_, _*_, _≤_, _<_};
 ghost use lib.ListN.{length, getD, drop};
 ghost use Rattle.digits.specs.UpTo.{upTo};
-ghost use Rattle.component.specs.Netlist.{netlist};
+ghost use Rattle.netlist.specs.Netlist.{netlistOf};
 ghost use Rattle.rules.specs.Rules.{offerNumber, bit, when, offered, componentWith};
 ghost use Rattle.rules.specs.Seen.{ruleNumbered};
 ghost use Rattle.signals.specs.Signals.{value};
 ghost use Rattle.signals.specs.Channels.{seenAt, movedIn, Readable, Ready};
-use component::Size;
+use netlist::Size;
 use rules::Channel;
 use rules::Offer;
 
@@ -172,10 +172,10 @@ pub fn evaluate(
     choices: &[u8],
     signals: &mut [u8],
 )
-    requires { ⌜ Ready (netlist (size .colours) (size .channels) (size .components) (now table)) (now plan) (now state) (now choices) ⌝ }
+    requires { ⌜ Ready (netlistOf size (now table)) (now plan) (now state) (now choices) ⌝ }
     requires { ⌜ 2 * size .channels ≤ length (now signals) ⌝ }
     ensures { λ _. ⌜ now (signals .exit) ≡
-        upTo (2 * size .channels) (value (netlist (size .colours) (size .channels) (size .components) (now (table .entry))) (now (state .entry)) (now (choices .entry)))
+        upTo (2 * size .channels) (value (netlistOf size (now (table .entry))) (now (state .entry)) (now (choices .entry)))
         ++ drop (2 * size .channels) (now (signals .entry)) ⌝ }
 {
     clear(&mut *signals, 2 * size.channels);

@@ -10,10 +10,10 @@ use lib.ListN.{length, getD, drop, set, replicate, length-replicate, replicate-a
 use lib.Seq.{set-at, drop-cons, append-snoc, drop-length}
 use Rattle.record.proofs.Table.{row-at}
 use Rattle.component.specs.Kind.{queue, kindOf}
-use Rattle.component.specs.Netlist.{Netlist, rowOf}
+use Rattle.netlist.specs.Netlist.{Netlist, rowOf}
 use Rattle.component.specs.Row.{filling, fillColour}
-use Rattle.state.specs.Cells.{cellWith}
-use Rattle.state.specs.Start.{startCell, startAt}
+use Rattle.cells.specs.Cells.{cellWith}
+use Rattle.cells.specs.Start.{startCell, startAt}
 use Rattle.start.specs.Startable.{Startable}
 
 -- a turn of `clear`

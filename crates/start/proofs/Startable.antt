@@ -3,8 +3,8 @@ use mathlib.Core.List.{List}
 use Prim.Native.Nat.{ℕ, _*_, _≤_}
 use native.Mathlib.Omega.{arith}
 use lib.ListN.{length}
-use Rattle.component.specs.Netlist.{Netlist}
-use Rattle.reader.specs.Accepted.{AcceptedFabric}
+use Rattle.netlist.specs.Netlist.{Netlist}
+use Rattle.netlist.specs.Accepted.{AcceptedFabric}
 use Rattle.start.specs.Startable.{Startable}
 
 pub startable : (f : Netlist) (ends order : List ℕ) → AcceptedFabric f ends order → (state : List ℕ) → 64 * f .components ≤ length state → Startable (f .table) (f .components) state

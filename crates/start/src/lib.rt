@@ -5,11 +5,11 @@ ghost use Prim.Native.Nat.{ℕ, _≤_};
 ghost use lib.ListN.{length, replicate};
 ghost use Rattle.component.specs.Kind.{queue, kindOf};
 ghost use Rattle.component.specs.Row.{filling, fillColour};
-ghost use Rattle.component.specs.Netlist.{netlist};
-ghost use Rattle.state.specs.Cells.{cellWith};
-ghost use Rattle.state.specs.Start.{startCell, started};
+ghost use Rattle.netlist.specs.Netlist.{netlistOf};
+ghost use Rattle.cells.specs.Cells.{cellWith};
+ghost use Rattle.cells.specs.Start.{startCell, started};
 ghost use Rattle.start.specs.Startable.{Startable};
-use component::Size;
+use netlist::Size;
 
 // Nothing held.
 fn clear(cell: &mut [u8])
@@ -51,7 +51,7 @@ fn start_cell(kind: u8, n: u8, c: u8, cell: &mut [u8])
 // The state at start.
 pub fn write_start(table: &[u8], size: Size, state: &mut [u8])
     requires { ⌜ Startable (now table) (size .components) (now state) ⌝ }
-    ensures { λ _. ⌜ now (state .exit) ≡ started (netlist (size .colours) (size .channels) (size .components) (now (table .entry))) (now (state .entry)) ⌝ }
+    ensures { λ _. ⌜ now (state .exit) ≡ started (netlistOf size (now (table .entry))) (now (state .entry)) ⌝ }
 {
     let mut k: usize = 0;
     while k < size.components {

@@ -7,7 +7,7 @@ use lib.Dec.{ltb, lit<}
 use lib.ListN.{getD}
 use Rattle.order.specs.Values.{val}
 use Rattle.component.specs.Kind.{Kind, source, sink, queue, function, fork, join, switch, merge, Port, A, B, C}
-use Rattle.component.specs.Netlist.{Netlist, rowOf}
+use Rattle.netlist.specs.Netlist.{Netlist, rowOf}
 use Rattle.component.specs.Row.{kind, firstMap, secondMap, capacity}
 use Rattle.wiring.specs.Ends.{endPort}
 use Rattle.wiring.specs.Signals.{Near, offerA, offerB, takeB, takeC, endOf}
@@ -18,8 +18,8 @@ use Rattle.plan.specs.Plan.{Planned}
 use Rattle.signals.specs.Channels.{Ready}
 use Rattle.signals.specs.Signals.{componentAt, near, ruleOf, value, moved}
 use Rattle.state.specs.Step.{CanStep}
-use Rattle.state.proofs.Choices.{source-choice}
-use Rattle.state.proofs.Good.{emitted-le, source-held, queue-colour}
+use Rattle.cells.proofs.Choices.{source-choice}
+use Rattle.cells.proofs.Good.{emitted-le, source-held, queue-colour}
 
 front-le : (n v b : ℕ) → (0 < n → v < b) → when n (suc v) ≤ b
 front-le zero v b h = omega arith

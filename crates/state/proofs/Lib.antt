@@ -1,9 +1,6 @@
-pub mod Good
-pub mod Choices
-pub mod Cells
+pub mod Queues
 pub mod Transfers
 pub mod Bounds
 pub mod Updatable
 pub mod Step
-pub mod Start
 pub mod Turn

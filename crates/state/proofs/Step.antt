@@ -1,27 +1,26 @@
 -- The state after a step, component by component; from a good state under allowed choices it is good. Assumes nothing.
 use mathlib.Core.Path.{_≡_, refl, sym, ap, _∙_}
-use mathlib.Core.Bool.{true, cond}
+use mathlib.Core.Bool.{true}
 use mathlib.Core.List.{List, [], _∷_, _++_, append-nil}
-use Prim.Native.Nat.{ℕ, zero, suc, _+_, _-_, _*_, _≤_, _<_}
+use Prim.Native.Nat.{ℕ, zero, suc, _+_, _*_, _≤_, _<_}
 use native.Mathlib.Omega.{arith}
 use native.Mathlib.Numerals.{one-add}
 use native.Mathlib.Decide.{decLt}
-use lib.Dec.{ltb, eqb}
-use lib.ListN.{length, getD, take, drop, replicate, length-append, length-drop, List·getD-append}
+use lib.ListN.{length, getD, take, drop, length-append, length-drop, List·getD-append}
 use lib.Seq.{getD-at, getD-drop, getD-take}
-use borrow.Author.Tests.{lt-ltb, le-ltb, le-leb}
+use borrow.Author.Tests.{lt-ltb}
 use Rattle.component.specs.Kind.{Kind, source, sink, queue, function, fork, join, switch, merge, A, B}
-use Rattle.component.specs.Netlist.{Netlist, rowOf}
+use Rattle.netlist.specs.Netlist.{Netlist, rowOf}
 use Rattle.component.specs.Row.{kind, port, capacity}
 use Rattle.rules.specs.Rules.{unless, offered, orElse}
-use Rattle.signals.specs.Signals.{cell, componentAt, moved, moves}
-use Rattle.state.specs.Cells.{queueColours, cellWith}
-use Rattle.state.specs.Good.{emitted, goodByte, goodCell, Good}
+use Rattle.cells.specs.Cells.{cell, queueColours, cellWith}
+use Rattle.signals.specs.Signals.{componentAt, moved, moves}
+use Rattle.cells.specs.Good.{emitted, goodByte, goodCell, Good}
 use Rattle.state.specs.Step.{dropped, appended, cellNext, nextAt, stateNext, next, CanStep}
 use Rattle.state.proofs.Bounds.{moved-le}
-use Rattle.state.proofs.Cells.{cells-long, cells-at, cells-same, queue-length, queue-count, cell-queue}
-use Rattle.state.proofs.Choices.{source-choice}
-use Rattle.state.proofs.Good.{all-of, cell-long, good-byte, source-held, queue-count-le, queue-colour, queue-whole}
+use Rattle.cells.proofs.Cells.{cells-long, cells-at, cells-same, queue-length, queue-count, cell-queue}
+use Rattle.cells.proofs.Choices.{source-choice}
+use Rattle.cells.proofs.Good.{all-of, cell-long, good-byte, source-held, queue-count-le, queue-colour, queue-whole, Below, queue-good}
 use Rattle.state.proofs.Transfers.{move-is}
 use Rattle.state.proofs.Updatable.{dropped-le, roomy, queue-moves}
 
@@ -90,10 +89,6 @@ module _ (f : Netlist) (ends order state choices : List ℕ) (t : CanStep f ends
   unfolding next stateNext
   next-length = rw (length-append, cells-long (nextAt f state choices (moves f state choices)) (f .components) next-long, length-drop) (omega (arith, t .good .long))
 
--- colours below c
-pub record Below (c : ℕ) (cs : List ℕ) : Type 0 where
-  pub each : (j : ℕ) → j < length cs → getD cs j 0 < c
-
 below-dropped : (c m : ℕ) (cs : List ℕ) → Below c cs → Below c (dropped m cs)
 below-dropped c zero cs b = b
 below-dropped c (suc m) cs b = record { each = λ j l. rw getD-drop (b .each (1 + j) (omega (arith, rw length-drop at l))) }
@@ -107,28 +102,6 @@ below-appended c (suc d) cs h b = record { each = λ j l. go j l (decLt j (lengt
     go j l (no q) =
         let e : j ≡ length cs = omega (arith, rw (length-append cs (d ∷ [])) at l) in
         rw (e, getD-at cs d [] 0 (length cs) refl) h
-
-pub zero-at : (n j : ℕ) → _≡_ {A = ℕ} (getD (replicate n 0) j 0) 0
-zero-at zero j = refl
-zero-at (suc n) zero = refl
-zero-at (suc n) (suc j) = zero-at n j
-
-past : (cs : List ℕ) (n j : ℕ) → length cs ≤ j → getD (cs ++ replicate n 0) j 0 ≡ 0
-past [] n j q = zero-at n j
-past (x ∷ cs) n zero q = absurd (omega arith)
-past (x ∷ cs) n (suc j) q = past cs n j (omega arith)
-
--- the bytes of a queue with these colours are good
-pub queue-good : (r : List ℕ) (c : ℕ) (cs : List ℕ) → length cs ≤ capacity r → length cs ≤ 63 → Below c cs → (j : ℕ) → j < 64 →
-    goodByte queue r c (getD (cellWith cs) 0 0) j (getD (cellWith cs) j 0) ≡ true
-unfolding goodByte cellWith
-queue-good r c cs h f b zero l = le-leb (length cs) (capacity r) h
-queue-good r c cs h f b (suc j) l = go (decLt j (length cs))
-  where
-    go : Dec (j < length cs) →
-        cond (ltb j (length cs)) (ltb (getD (cs ++ replicate (63 - length cs) 0) j 0) c) (eqb (getD (cs ++ replicate (63 - length cs) 0) j 0) 0) ≡ true
-    go (yes q) = rw (lt-ltb j (length cs) q, List·getD-append cs (replicate (63 - length cs) 0) 0 j q) (lt-ltb _ _ (b .each j q))
-    go (no q) = rw (le-ltb j (length cs) (omega arith), past cs (63 - length cs) j (omega arith))
 
 unless-emitted : (r : List ℕ) (m a b : ℕ) → emitted r a ≡ true → emitted r b ≡ true → emitted r (unless m (orElse a b)) ≡ true
 unless-emitted r (suc m) a b h k = refl

@@ -6,11 +6,11 @@ use Prim.Native.Nat.{ℕ, _+_, _*_, _<_}
 use lib.ListN.{length, getD}
 use Rattle.digits.proofs.UpTo.{length-upTo, filled-at}
 use Rattle.component.specs.Kind.{Port, portUse, isOutput, isInput}
-use Rattle.component.specs.Netlist.{Netlist, rowOf}
+use Rattle.netlist.specs.Netlist.{Netlist, rowOf}
 use Rattle.component.specs.Row.{kind, port}
 use Rattle.rules.specs.Rules.{when}
 use Rattle.signals.proofs.Signals.{value-output, value-input}
-use Rattle.reader.specs.Accepted.{AcceptedFabric}
+use Rattle.netlist.specs.Accepted.{AcceptedFabric}
 use Rattle.signals.specs.Signals.{ruleAt, value, moved, moves}
 
 pub moves-length : (f : Netlist) (state choices : List ℕ) → length (moves f state choices) ≡ f .channels

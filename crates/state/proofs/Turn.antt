@@ -9,13 +9,13 @@ use lib.Dec.{eqb, lit<}
 use lib.ListN.{length, getD, drop, set}
 use Rattle.record.proofs.Table.{row-at}
 use Rattle.component.specs.Kind.{queue, kindOf}
-use Rattle.component.specs.Netlist.{Netlist, rowOf}
+use Rattle.netlist.specs.Netlist.{Netlist, rowOf}
 use Rattle.rules.proofs.Values.{bit-nonzero}
 use Rattle.rules.specs.Rules.{bit, unless, offered, Component, componentWith}
-use Rattle.signals.specs.Signals.{cell}
+use Rattle.cells.specs.Cells.{cell}
 use Rattle.state.specs.Step.{cellNext, nextAt}
 use Rattle.state.specs.Updatable.{Moves, Updatable}
-use Rattle.state.proofs.Cells.{Laid, lent-is}
+use Rattle.cells.proofs.Cells.{Laid, lent-is}
 
 pub set-first : (q : List ℕ) (v : ℕ) → 0 < length q → set q 0 v ≡ v ∷ drop 1 q
 set-first [] v h = absurd (omega arith)

@@ -8,15 +8,15 @@ use lib.Dec.{ltb}
 use lib.ListN.{length, getD, length-append, length-drop}
 use borrow.Author.Tests.{ltb-true}
 use Rattle.component.specs.Kind.{queue, Port, A, B, portUse}
-use Rattle.component.specs.Netlist.{Netlist, rowOf}
+use Rattle.netlist.specs.Netlist.{Netlist, rowOf}
 use Rattle.component.specs.Row.{kind, port, capacity}
 use Rattle.rules.specs.Rules.{bit, when, offered, rule}
-use Rattle.signals.specs.Signals.{cell, value, moved, moves}
-use Rattle.state.specs.Cells.{queueColours}
+use Rattle.cells.specs.Cells.{cell, queueColours}
+use Rattle.signals.specs.Signals.{value, moved, moves}
 use Rattle.state.specs.Step.{dropped, CanStep}
 use Rattle.state.specs.Updatable.{Moves, Updatable}
-use Rattle.state.proofs.Cells.{queue-count}
-use Rattle.state.proofs.Good.{queue-whole}
+use Rattle.cells.proofs.Cells.{queue-count}
+use Rattle.cells.proofs.Good.{queue-whole}
 use Rattle.state.proofs.Transfers.{moves-length, move-is, out-moves, in-moves}
 
 pub when-open : (g v : ℕ) → 0 < when g v → (0 < g) × (0 < v)

@@ -1,6 +1,2 @@
-pub mod Good
-pub mod Cells
-pub mod Start
-pub mod Choices
 pub mod Step
 pub mod Updatable

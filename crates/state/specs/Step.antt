@@ -4,13 +4,13 @@ use Prim.Native.Nat.{ℕ, zero, suc, _*_}
 use lib.ListN.{getD, drop}
 use Rattle.component.specs.Kind.{Kind, source, sink, queue, function, fork, join, switch, merge, A, B}
 use Rattle.component.specs.Row.{kind, port}
-use Rattle.component.specs.Netlist.{Netlist, rowOf}
+use Rattle.netlist.specs.Netlist.{Netlist, rowOf}
 use Rattle.rules.specs.Rules.{Component, held, offered, orElse, unless}
-use Rattle.reader.specs.Accepted.{AcceptedFabric}
+use Rattle.netlist.specs.Accepted.{AcceptedFabric}
 use Rattle.signals.specs.Signals.{componentAt, moves}
-use Rattle.state.specs.Good.{Good}
-use Rattle.state.specs.Choices.{Allowed}
-use Rattle.state.specs.Cells.{queueColours, cellWith, cells}
+use Rattle.cells.specs.Good.{Good}
+use Rattle.cells.specs.Choices.{Allowed}
+use Rattle.cells.specs.Cells.{queueColours, cellWith, cells}
 
 -- A queue drops its front if its output moved, then appends what came in.
 abbrev pub dropped : ℕ → List ℕ → List ℕ

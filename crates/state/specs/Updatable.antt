@@ -7,14 +7,8 @@ use Rattle.record.specs.Table.{row}
 use Rattle.component.specs.Kind.{queue, A, B}
 use Rattle.component.specs.Row.{kind, port}
 use Rattle.rules.specs.Rules.{offered}
-use Rattle.signals.specs.Signals.{cell}
-use Rattle.state.specs.Cells.{queueColours, cellWith}
+use Rattle.cells.specs.Cells.{cell, queueColours, Queue}
 use Rattle.state.specs.Step.{dropped}
-
--- a queue's bytes
-pub record Queue (s : List ℕ) : Type 0 where
-  pub shape : s ≡ cellWith (queueColours s)
-  pub fits : length (queueColours s) ≤ 63
 
 -- the byte behind a queue's last colour after a step: the colour that came in, or what stood there
 abbrev pub newest : ℕ → ℕ → ℕ

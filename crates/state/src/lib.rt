@@ -5,12 +5,12 @@ ghost use Prim.Native.Nat.{ℕ, _+_, _*_, _≤_, _<_};
 ghost use lib.ListN.{length, getD, drop};
 ghost use lib.Seq.{paste};
 ghost use Rattle.component.specs.Kind.{queue, kindOf};
-ghost use Rattle.component.specs.Netlist.{netlist};
+ghost use Rattle.netlist.specs.Netlist.{netlistOf};
 ghost use Rattle.rules.specs.Rules.{unless, offered, orElse, componentWith};
-ghost use Rattle.state.specs.Cells.{queueColours, cellWith};
+ghost use Rattle.cells.specs.Cells.{queueColours, cellWith, Queue};
 ghost use Rattle.state.specs.Step.{dropped, appended, cellNext, stateNext};
-ghost use Rattle.state.specs.Updatable.{Queue, newest, Moves, Updatable};
-use component::Size;
+ghost use Rattle.state.specs.Updatable.{newest, Moves, Updatable};
+use netlist::Size;
 use rules::HeldSink;
 use rules::HeldSource;
 use rules::byte_of_offer;
@@ -154,7 +154,7 @@ fn move_at(table: &[u8], at: usize, moves: &[u8]) -> u8
 // The state after a step, from what moved.
 pub fn update(table: &[u8], size: Size, state: &mut [u8], choices: &[u8], moves: &[u8])
     requires { ⌜ Updatable (now table) (size .components) (now state) (now choices) (now moves) ⌝ }
-    ensures { λ _. ⌜ now (state .exit) ≡ stateNext (netlist (size .colours) (size .channels) (size .components) (now (table .entry)))
+    ensures { λ _. ⌜ now (state .exit) ≡ stateNext (netlistOf size (now (table .entry)))
         (now (state .entry)) (now (choices .entry)) (now (moves .entry)) ⌝ }
 {
     let mut k: usize = 0;

@@ -1,10 +1,14 @@
-//! Circles that need every single dependence of function, fork and join.
+//! Every single dependence: circles that need it, for function, fork and join; lists, for switch
+//! and merge.
 //!
 //! The dependences are their own mirror image, with offer and take changed over and the arrows
-//! turned round, so most circles come in pairs. These are their own image.
+//! turned round, so most circles come in pairs. These are their own image. In a switch or merge such
+//! a circle can be cut short from take(A) to offer(A), so that no circle needs the others.
 
 use super::{fabric_answer, function};
 use crate::component::{Component, Kind};
+use crate::dependences::dependences;
+use crate::dependences::Signal::{self, Offer, Take};
 use crate::fabric::Fabric;
 use crate::samples::{queue, sink, source};
 
@@ -86,4 +90,27 @@ fn across_the_inputs_of_a_join() {
         }),
         CIRCLE
     );
+}
+
+/// What a signal of a component with ports 0, 1 and 2 depends on.
+fn depends_on(kind: Kind, signal: Signal) -> Vec<Signal> {
+    let all = dependences(&Component::new(kind, [0, 1, 2])).into_iter();
+    let own = all.filter(|&(of, _)| of == signal);
+    own.map(|(_, on)| on).collect()
+}
+
+#[test]
+fn of_a_switch() {
+    assert_eq!(depends_on(Kind::Switch, Offer(1)), [Offer(0)]);
+    assert_eq!(depends_on(Kind::Switch, Offer(2)), [Offer(0)]);
+    let offer_and_outputs = [Offer(0), Take(1), Take(2)];
+    assert_eq!(depends_on(Kind::Switch, Take(0)), offer_and_outputs);
+}
+
+#[test]
+fn of_a_merge() {
+    assert_eq!(depends_on(Kind::Merge, Offer(2)), [Offer(0), Offer(1)]);
+    let both_offers_and_output = [Offer(0), Offer(1), Take(2)];
+    assert_eq!(depends_on(Kind::Merge, Take(0)), both_offers_and_output);
+    assert_eq!(depends_on(Kind::Merge, Take(1)), both_offers_and_output);
 }

@@ -60,7 +60,9 @@ fn start_needs_64_bytes_a_component_and_keeps_the_rest() {
     assert_eq!(number_and_place(&short), (21, 0));
     assert_eq!(state, [KEPT; 64 * 6 + 5]);
     assert_eq!(start(&file, &mut state), Ok(()));
-    assert_eq!(state[..64 * 6], started(&credit_loop()));
+    let mut two_credits = [0; 64 * 6];
+    two_credits[64 * 5] = 2;
+    assert_eq!(state[..64 * 6], two_credits);
     assert_eq!(state[64 * 6..], [KEPT; 5]);
     let mut refused = [KEPT; 256];
     let circle = start(&fork_into_join().to_file(), &mut refused);

@@ -2,8 +2,7 @@
 use Prim.Native.Nat.{_≤_, _-_, _+_}
 use mathlib.Core.Path.{_≡_}
 use native.Mathlib.Omega.{arith}
-use Rattle.digits.specs.Packed.{joined}
-use Rattle.digits.specs.Packed.{bytes}
+use Rattle.digits.specs.Packed.{joined, bytes}
 use Rattle.digits.proofs.Words.{word-lt, word-more}
 use Rattle.digits.proofs.word.Statement.{statement}
 use Rattle.digits.proofs.word.Tie as tie

@@ -51,8 +51,10 @@ equation-of-requires c κs = search needs
 
 returns : tie.Need-returns
 returns c =
+    let b = c .before .before .before .before .before .before .before .before .before .before .before .before in
     c .equation-of .ensures
-    ∙ equation-read (c .before .before .before .before .before .before .before .before .before .before .before .before .args .table .now) (c .before .before .before .before .before .before .before .before .before .before .before .before .args .at) (c .before .before .before .before .before .before .before .before .before .before .before .before .args .colours) (c .before .before .before .before .before .before .before .before .before .before .before .before .args .i) (c .before .before .before .before .before .before .before .before .before .wide .ensures .0) (c .before .before .before .before .before .before .before .wide2 .ensures .0) (c .before .before .before .before .before .wide3 .ensures .0) (c .before .before .before .wide4 .ensures .0) (c .before .wide5 .ensures .0)
+    ∙ equation-read (b .args .table .now) (b .args .at) (b .args .colours) (b .args .i) (b .args .term)
+    (c .before .before .before .before .before .before .before .before .before .wide .ensures .0) (c .before .before .before .before .before .before .before .wide2 .ensures .0) (c .before .before .before .before .before .wide3 .ensures .0) (c .before .before .before .wide4 .ensures .0) (c .before .wide5 .ensures .0)
 
 pub equation-at-spec : {M : Type 1} → statement M
 equation-at-spec =

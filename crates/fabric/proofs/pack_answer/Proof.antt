@@ -7,7 +7,7 @@ use Rattle.fabric.proofs.pack_answer.Statement.{statement}
 use Rattle.fabric.proofs.pack_answer.Tie as tie
 use Rattle.fabric.proofs.pack_answer.Reads as reads
 use Rattle.fabric.proofs.pack_answer.Lts as lts
-use Rattle.fabric.proofs.room_for.Reads as room-for-reads
+use Rattle.refusals.proofs.room_for.Reads as room-for-reads
 use Rattle.fabric.proofs.table_verdict.Reads as table-verdict-reads
 
 returns : tie.Need-returns

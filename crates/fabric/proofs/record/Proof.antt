@@ -1,5 +1,5 @@
 use mathlib.Core.Path.{_≡_, refl, sym, _∙_}
-use Prim.Native.Nat.{_+_, _-_, _*_}
+use Prim.Native.Nat.{ℕ, _+_, _-_}
 use Rattle.reader.proofs.Accepted.{accepted-long}
 use Rattle.fabric.proofs.Unpacked.{start-in, length-in, start-past, length-past, start-refused, length-refused}
 use native.Mathlib.Omega.{arith}
@@ -25,20 +25,23 @@ part-result-start c = search needs
 part-result-end : tie.Need-part-result-end
 part-result-end c = search needs
 
-enum-known-components : tie.Need-enum-known-components
-enum-known-components c = search needs
-
-cast-n : tie.Need-cast-n
-cast-n c = search needs
+enum-known-size : tie.Need-enum-known-size
+enum-known-size c = search needs
 
 mul-start : tie.Need-mul-start
-mul-start c = search needs
+mul-start c =
+    let e = sym (c .before .before .before .before .reading-of .ensures) ∙ c .before .before .size .given .1 in
+    omega (arith, accepted-long (c .before .before .before .before .before .before .args .file .now) e .1)
 
 add-start : tie.Need-add-start
-add-start c = search needs
+add-start c =
+    let e = sym (c .before .before .before .before .reading-of .ensures) ∙ c .before .before .size .given .1 in
+    omega (arith, accepted-long (c .before .before .before .before .before .before .args .file .now) e .1)
 
 add-end : tie.Need-add-end
-add-end c = search needs
+add-end c =
+    let e = sym (c .before .before .before .before .reading-of .ensures) ∙ c .before .before .size .given .1 in
+    omega (arith, accepted-long (c .before .before .before .before .before .before .args .file .now) e .1)
 
 sub-result-2 : tie.Need-sub-result-2
 sub-result-2 c = search needs
@@ -48,15 +51,17 @@ part-result-start-2 c = search needs
 
 part-result-end-2 : tie.Need-part-result-end-2
 part-result-end-2 c =
-    let e = sym (c .before .before .before .before .reading-of .ensures) ∙ c .before .before .components .given .1 in
+    let e = sym (c .before .before .before .before .reading-of .ensures) ∙ c .before .before .size .given .1 in
     omega (arith, accepted-long (c .before .before .before .before .before .before .args .file .now) e .0)
+
+span : (s n : ℕ) → (s + n) - s ≡ n
+span s n = omega arith
 
 returns : tie.Need-returns
 returns c =
     let a = c .before .before .before .before .before .before .before .args in
-    let e = sym (c .before .before .before .before .before .reading-of .ensures) ∙ c .before .before .before .components .given .1 in
-    let w : (4 + 13 * a .k + 13) - (4 + 13 * a .k) ≡ 13 = omega arith in
-    rw (w, start-in (a .file .now) (a .k) e (c .before .if1 .taken), length-in (a .file .now) (a .k) e (c .before .if1 .taken)) (refl, refl)
+    let e = sym (c .before .before .before .before .before .reading-of .ensures) ∙ c .before .before .before .size .given .1 in
+    rw (span _ 13, start-in (a .file .now) (a .k) e (omega arith), length-in (a .file .now) (a .k) e (omega arith)) (refl, refl)
 
 sub-result-3 : tie.Need-sub-result-3
 sub-result-3 c = search needs
@@ -76,8 +81,8 @@ returns-2 c =
 returns-3 : tie.Need-returns-3
 returns-3 c =
     let a = c .before .before .before .before .before .before .before .args in
-    let e = sym (c .before .before .before .before .before .reading-of .ensures) ∙ c .before .before .before .components .given .1 in
-    rw (start-past (a .file .now) (a .k) e (c .before .if1 .left), length-past (a .file .now) (a .k) e (c .before .if1 .left)) (refl, refl)
+    let e = sym (c .before .before .before .before .before .reading-of .ensures) ∙ c .before .before .before .size .given .1 in
+    rw (start-past (a .file .now) (a .k) e (omega arith), length-past (a .file .now) (a .k) e (omega arith)) (refl, refl)
 
 pub record-spec : {M : Type 1} → statement M
 record-spec =
@@ -88,8 +93,7 @@ record-spec =
     sub-result
     part-result-start
     part-result-end
-    enum-known-components
-    cast-n
+    enum-known-size
     mul-start
     add-start
     add-end

@@ -1,33 +1,29 @@
-use Prim.Native.Nat.{_*_}
-use borrow.Author.Tests.{lt-ltb, le-ltb}
+use mathlib.Core.Path.{ap, _∙_}
+use Rattle.refusals.specs.declared.Verdict.{Verdict}
+use Rattle.reader.specs.Reading.{readAs}
 use borrow.Author.Needs.{needs}
 use Rattle.fabric.proofs.with_room.Statement.{statement}
 use Rattle.fabric.proofs.with_room.Tie as tie
 use Rattle.fabric.proofs.with_room.Reads as reads
 use Rattle.fabric.proofs.with_room.Lts as lts
+use Rattle.reader.proofs.read_as.Reads as read-as-reads
+use Rattle.refusals.proofs.room_for.Reads as room-for-reads
 
-enum-known-found : tie.Need-enum-known-found
-enum-known-found c = search needs
+-- src/lib.rt:22:16
+mul-need : tie.Need-mul-need
+mul-need c = search needs
 
-enum-known-found-2 : tie.Need-enum-known-found-2
-enum-known-found-2 c = search needs
+-- src/lib.rt:23:21
+room-for-requires : tie.Need-room-for-requires
+room-for-requires c κs = search needs
 
-cast-if1 : tie.Need-cast-if1
-cast-if1 c = search needs
+-- src/lib.rt:23:5
+read-as-requires : tie.Need-read-as-requires
+read-as-requires c κs = search needs
 
-mul-if1 : tie.Need-mul-if1
-mul-if1 c = search needs
-
+-- src/lib.rt:18:1
 returns : tie.Need-returns
-returns c = rw (c .before .before .found2 .given .1, lt-ltb (c .before .before .before .before .args .space) (24 * c .before .before .found2 .given .0 .1 .1 .0) (c .if1 .taken))
-
-returns-2 : tie.Need-returns-2
-returns-2 c = rw (c .before .found .given .1)
-
-returns-3 : tie.Need-returns-3
-returns-3 c = rw (c .before .before .found2 .given .1, le-ltb (c .before .before .before .before .args .space) (24 * c .before .before .found2 .given .0 .1 .1 .0) (c .if1 .left))
+returns c = c .read-as .ensures ∙ ap (λ (v : Verdict). readAs v (c .before .before .before .args .size)) (c .before .room-for .ensures)
 
 pub with-room-spec : {M : Type 1} → statement M
-with-room-spec =
-    tie.close
-    (tie.spec enum-known-found enum-known-found-2 cast-if1 mul-if1 returns returns-2 returns-3)
+with-room-spec = tie.close (tie.spec mul-need room-for-requires read-as-requires returns)

@@ -3,7 +3,7 @@ use Prim.Native.Nat.{_+_, _-_}
 use native.Mathlib.Omega.{arith}
 use lib.ListN.{length, length-take, length-drop}
 use borrow.Author.Tests.{not-false}
-use Rattle.component.specs.Netlist.{netlist}
+use Rattle.netlist.specs.Netlist.{netlist}
 use Rattle.good.proofs.Sets.{Cleared, none-cleared, more-cleared}
 use Rattle.good.proofs.allowed_steps.Statement.{statement}
 use Rattle.good.proofs.allowed_steps.Tie as tie

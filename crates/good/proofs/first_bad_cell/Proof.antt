@@ -7,8 +7,8 @@ use borrow.Author.Needs.{needs}
 use borrow.Author.Count.{below-more}
 use Rattle.digits.proofs.Least.{least-at, least-none}
 use Rattle.record.specs.Table.{row}
-use Rattle.signals.specs.Signals.{cell}
-use Rattle.state.specs.Good.{goodCell, badComponent}
+use Rattle.cells.specs.Cells.{cell}
+use Rattle.cells.specs.Good.{goodCell, badComponent}
 use Rattle.good.proofs.first_bad_cell.Statement.{statement}
 use Rattle.good.proofs.first_bad_cell.Tie as tie
 use Rattle.good.proofs.first_bad_cell.Reads as reads

@@ -8,8 +8,8 @@ use borrow.Author.Tests.{not-false}
 use borrow.Author.Needs.{needs}
 use borrow.Author.Count.{below-more}
 use Rattle.digits.proofs.Least.{least-at, least-none}
-use Rattle.component.specs.Netlist.{netlist}
-use Rattle.state.specs.Choices.{choiceAt, badChoice}
+use Rattle.netlist.specs.Netlist.{netlist}
+use Rattle.cells.specs.Choices.{choiceAt, badChoice}
 use Rattle.good.specs.Sets.{ChoiceSets}
 use Rattle.good.proofs.Sets.{choice-is}
 use Rattle.good.proofs.first_bad_choice.Statement.{statement}

@@ -1,6 +1,6 @@
 use borrow.Author.Needs.{needs}
 use Rattle.component.specs.Kind.{kindOf}
-use Rattle.state.specs.Good.{goodByte}
+use Rattle.cells.specs.Good.{goodByte}
 use Rattle.good.proofs.Cells.{first-rest}
 use Rattle.good.proofs.first_good.Statement.{statement}
 use Rattle.good.proofs.first_good.Tie as tie

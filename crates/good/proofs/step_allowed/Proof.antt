@@ -3,7 +3,7 @@ use Prim.Native.Nat.{_-_, _≤_}
 use native.Mathlib.Omega.{arith}
 use lib.ListN.{getD}
 use borrow.Author.Needs.{needs}
-use Rattle.state.specs.Good.{all}
+use Rattle.cells.specs.Good.{all}
 use Rattle.good.specs.Sets.{inSet}
 use Rattle.good.proofs.Cells.{all-turn, all-none}
 use Rattle.good.proofs.step_allowed.Statement.{statement}

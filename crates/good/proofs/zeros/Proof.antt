@@ -3,7 +3,7 @@ use Prim.Native.Nat.{_+_, _-_, _≤_}
 use native.Mathlib.Omega.{arith}
 use lib.Dec.{eqb}
 use lib.ListN.{getD}
-use Rattle.state.specs.Good.{all}
+use Rattle.cells.specs.Good.{all}
 use Rattle.good.proofs.Cells.{all-turn, all-none}
 use Rattle.good.proofs.zeros.Statement.{statement}
 use Rattle.good.proofs.zeros.Tie as tie

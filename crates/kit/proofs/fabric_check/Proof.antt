@@ -5,7 +5,7 @@ use Rattle.kit.proofs.fabric_check.Statement.{statement}
 use Rattle.kit.proofs.fabric_check.Tie as tie
 use Rattle.kit.proofs.fabric_check.Reads as reads
 use Rattle.kit.proofs.fabric_check.Lts as lts
-use Rattle.checker.proofs.check_bytes.Reads as check-bytes-reads
+use Rattle.checking.proofs.check_bytes.Reads as check-bytes-reads
 use Rattle.refusals.proofs.number_of.Reads as number-of-reads
 
 check-bytes-requires : tie.Need-check-bytes-requires

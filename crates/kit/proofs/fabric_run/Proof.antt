@@ -5,7 +5,7 @@ use Rattle.kit.proofs.fabric_run.Statement.{statement}
 use Rattle.kit.proofs.fabric_run.Tie as tie
 use Rattle.kit.proofs.fabric_run.Reads as reads
 use Rattle.kit.proofs.fabric_run.Lts as lts
-use Rattle.checker.proofs.run.Reads as run-reads
+use Rattle.stepping.proofs.run.Reads as run-reads
 use Rattle.refusals.proofs.number_of.Reads as number-of-reads
 
 run-requires : tie.Need-run-requires

@@ -5,7 +5,7 @@ use Rattle.kit.proofs.fabric_run_place.Statement.{statement}
 use Rattle.kit.proofs.fabric_run_place.Tie as tie
 use Rattle.kit.proofs.fabric_run_place.Reads as reads
 use Rattle.kit.proofs.fabric_run_place.Lts as lts
-use Rattle.checker.proofs.run_answer.Reads as run-answer-reads
+use Rattle.stepping.proofs.run_answer.Reads as run-answer-reads
 use Rattle.refusals.proofs.place_of.Reads as place-of-reads
 
 run-answer-requires : tie.Need-run-answer-requires

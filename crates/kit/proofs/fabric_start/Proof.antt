@@ -5,7 +5,7 @@ use Rattle.kit.proofs.fabric_start.Statement.{statement}
 use Rattle.kit.proofs.fabric_start.Tie as tie
 use Rattle.kit.proofs.fabric_start.Reads as reads
 use Rattle.kit.proofs.fabric_start.Lts as lts
-use Rattle.checker.proofs.start.Reads as start-reads
+use Rattle.stepping.proofs.start.Reads as start-reads
 use Rattle.refusals.proofs.number_of.Reads as number-of-reads
 
 start-requires : tie.Need-start-requires

@@ -5,7 +5,7 @@ use Rattle.kit.proofs.fabric_step.Statement.{statement}
 use Rattle.kit.proofs.fabric_step.Tie as tie
 use Rattle.kit.proofs.fabric_step.Reads as reads
 use Rattle.kit.proofs.fabric_step.Lts as lts
-use Rattle.checker.proofs.step.Reads as step-reads
+use Rattle.stepping.proofs.step.Reads as step-reads
 use Rattle.refusals.proofs.number_of.Reads as number-of-reads
 
 step-requires : tie.Need-step-requires

@@ -14,12 +14,9 @@ unpack-answer-requires c κs = search needs
 channels-of-requires : tie.Need-channels-of-requires
 channels-of-requires c κs = search needs
 
-cast-result : tie.Need-cast-result
-cast-result c = search needs
-
 returns : tie.Need-returns
 returns c = c .channels-of .ensures ∙ ap channelsOf (c .before .unpack-answer .ensures)
 
 pub fabric-unpack-channels-spec : {M : Type 1} → statement M
 fabric-unpack-channels-spec =
-    tie.close (tie.spec unpack-answer-requires channels-of-requires cast-result returns)
+    tie.close (tie.spec unpack-answer-requires channels-of-requires returns)

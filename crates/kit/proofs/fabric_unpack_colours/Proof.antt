@@ -14,12 +14,9 @@ unpack-answer-requires c κs = search needs
 colours-of-requires : tie.Need-colours-of-requires
 colours-of-requires c κs = search needs
 
-cast-result : tie.Need-cast-result
-cast-result c = search needs
-
 returns : tie.Need-returns
 returns c = c .colours-of .ensures ∙ ap coloursOf (c .before .unpack-answer .ensures)
 
 pub fabric-unpack-colours-spec : {M : Type 1} → statement M
 fabric-unpack-colours-spec =
-    tie.close (tie.spec unpack-answer-requires colours-of-requires cast-result returns)
+    tie.close (tie.spec unpack-answer-requires colours-of-requires returns)

@@ -49,7 +49,7 @@ record Turn (D : List ℕ) (s : ℕ) (P₀ P O : List ℕ) (c k : ℕ) : Type 0 
 
 module _ {D : List ℕ} {s : ℕ} {P₀ P O : List ℕ} {c k : ℕ} (u : Turn D s P₀ P O c k) where
   -- a circle below an entry of s is one below s
-  circle-up : {depth d : ℕ} → k < 4 → (depth ≡ 0 → ⊥) → d ≡ dep D s k → walks (dep D) (length P) (depth - 1) d ≡ true → walks (dep D) (length P₀) depth s ≡ true
+  circle-up : {depth d : ℕ} → k < 4 → 0 < depth → d ≡ dep D s k → walks (dep D) (length P) (depth - 1) d ≡ true → walks (dep D) (length P₀) depth s ≡ true
   circle-up {depth} hk pos i w =
       let e : depth ≡ suc (depth - 1) = omega arith in
       rw (e, ← u .long) (walks-suc (dep D) (length P) (depth - 1) s k (u .below) hk (rw i at w))
@@ -94,7 +94,9 @@ abbrev visit-μ-loop : visit-lts.MeasureT-loop
 visit-μ-loop deps s depth place₀ order₀ count c₀ k₀ place order c k = 4 - k
 
 visit-returns : (t : ℕ) → visit-lts.Need-returns (callees t) (visit-at t) visit.Post visit-Inv-loop visit-μ-loop
-visit-returns t c = rw (c .if1 .taken) (walks-zero _ _ _ (c .before .before .pre .1 .below))
+visit-returns t c =
+    let e : c .before .before .args .depth ≡ 0 = omega arith in
+    rw e (walks-zero _ _ _ (c .before .before .pre .1 .below))
 
 visit-loop-holds : (t : ℕ) → visit-lts.Need-loop-holds (callees t) (visit-at t) visit.Post visit-Inv-loop visit-μ-loop
 visit-loop-holds t c = search needs
@@ -136,7 +138,7 @@ visit-returns-2 : (t : ℕ) → visit-lts.Need-returns-2 (callees t) (visit-at t
 visit-returns-2 t c =
     let v = c .before .before .before .before in
     let b = v .before .before .before .before .before .before .before .before in
-    circle-up (b .before .loop .inv) (omega arith) (b .before .before .if1 .left) (v .before .before .before .before .before .before .wide .ensures) (rw (c .enum-told .given .1) at (v .visit .ensures))
+    circle-up (b .before .loop .inv) (omega arith) (omega arith) (v .before .before .before .before .before .before .wide .ensures) (rw (c .enum-told .given .1) at (v .visit .ensures))
 
 visit-enum-known-next : (t : ℕ) → visit-lts.Need-enum-known-next (callees t) (visit-at t) visit.Post visit-Inv-loop visit-μ-loop
 visit-enum-known-next t c = search needs

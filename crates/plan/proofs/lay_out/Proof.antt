@@ -1,6 +1,6 @@
 use mathlib.Core.Path.{_≡_}
 use Prim.Native.Nat.{_-_, _*_, _/_, _<_}
-use Rattle.component.specs.Netlist.{netlist}
+use Rattle.netlist.specs.Netlist.{netlistOf}
 use Rattle.wiring.specs.Signals.{endOf}
 use Rattle.plan.proofs.Plan.{row-kind, Laid, laid-none, laid-more, laid-all, some-end, ends-long, owner, noted}
 use native.Mathlib.Omega.{arith}
@@ -14,7 +14,7 @@ use Rattle.plan.proofs.put_place.Reads as put-place-reads
 use Rattle.plan.proofs.wide.Reads as wide-reads
 
 abbrev Inv-loop : tie.InvT-loop
-Inv-loop table ends size order plan₀ i₀ plan i = Laid (netlist (size .colours) (size .channels) (size .components) table) order plan₀ plan i
+Inv-loop table ends size order plan₀ i₀ plan i = Laid (netlistOf size table) order plan₀ plan i
 
 abbrev μ-loop : tie.MeasureT-loop
 μ-loop table ends size order plan₀ i₀ plan i = 2 * size .channels - i

@@ -3,7 +3,7 @@ use mathlib.Core.Path.{_≡_, _∙_}
 use lib.ListN.{length, length-take, length-drop}
 use lib.Dec.{lit<}
 use native.Mathlib.Omega.{arith}
-use Rattle.component.specs.Netlist.{netlist}
+use Rattle.netlist.specs.Netlist.{netlistOf}
 use Rattle.plan.proofs.Plan.{place-number, place-first}
 use Rattle.signals.proofs.Found.{Finding, found-none, found-all, Place, component-below, signal-below, readable, turn}
 use Rattle.signals.proofs.evaluate.Statement.{statement}
@@ -15,14 +15,14 @@ use Rattle.signals.proofs.clear.Reads as clear-reads
 use Rattle.signals.proofs.signal.Reads as signal-reads
 
 abbrev Inv-loop : tie.InvT-loop
-Inv-loop table size plan state choices signals₀ i₀ signals i = Finding (netlist (size .colours) (size .channels) (size .components) table) plan state choices signals₀ signals i
+Inv-loop table size plan state choices signals₀ i₀ signals i = Finding (netlistOf size table) plan state choices signals₀ signals i
 
 abbrev μ-loop : tie.MeasureT-loop
 μ-loop table size plan state choices signals₀ i₀ signals i = 2 * size .channels - i
 
 -- what the place at hand says
 place : (c : tie.After-place-at Inv-loop μ-loop) →
-    Place (netlist (c .before .before .before .before .before .before .before .before .before .before .before .before .before .before .args .size .colours) (c .before .before .before .before .before .before .before .before .before .before .before .before .before .before .args .size .channels) (c .before .before .before .before .before .before .before .before .before .before .before .before .before .before .args .size .components) (c .before .before .before .before .before .before .before .before .before .before .before .before .before .before .args .table .now)) (c .before .before .before .loop .inv .planned .order) (c .before .before .before .loop .i)
+    Place (netlistOf (c .before .before .before .before .before .before .before .before .before .before .before .before .before .before .args .size) (c .before .before .before .before .before .before .before .before .before .before .before .before .before .before .args .table .now)) (c .before .before .before .loop .inv .planned .order) (c .before .before .before .loop .i)
     (c .place-at .result .rule) (c .place-at .result .signal) (c .place-at .result .component) (c .place-at .result .a) (c .place-at .result .b) (c .place-at .result .c)
 place c =
     let p = c .before .before .before .loop .inv .planned in
@@ -58,7 +58,7 @@ clear-requires : tie.Need-clear-requires Inv-loop μ-loop
 clear-requires c κs = c .before .before .before .before .before .before .before .pre .1
 
 loop-holds : tie.Need-loop-holds Inv-loop μ-loop
-loop-holds c = let s = c .before .before .before .before .before .before .before .before .before .before in record { planned = s .pre .0 .planned; found = found-none (netlist (c .before .before .before .before .before .before .before .before .before .before .args .size .colours) (c .before .before .before .before .before .before .before .before .before .before .args .size .channels) (c .before .before .before .before .before .before .before .before .before .before .args .size .components) (c .before .before .before .before .before .before .before .before .before .before .args .table .now)) _ (s .args .state .now) (s .args .choices .now) (s .args .signals .now) _ (c .before .before .clear .ensures) }
+loop-holds c = let s = c .before .before .before .before .before .before .before .before .before .before in record { planned = s .pre .0 .planned; found = found-none (netlistOf (c .before .before .before .before .before .before .before .before .before .before .args .size) (c .before .before .before .before .before .before .before .before .before .before .args .table .now)) _ (s .args .state .now) (s .args .choices .now) (s .args .signals .now) _ (c .before .before .clear .ensures) }
 
 mul-if1 : tie.Need-mul-if1 Inv-loop μ-loop
 mul-if1 c = omega (arith, c .before .before .before .before .before .before .before .before .before .before .before .before .pre .0 .planned .accepted .fewChannels)

@@ -2,7 +2,7 @@ use mathlib.Core.Path.{_≡_, _∙_}
 use borrow.Author.Needs.{needs}
 use Rattle.record.specs.Table.{row}
 use Rattle.component.specs.Kind.{queue, kindOf}
-use Rattle.state.specs.Start.{startCell}
+use Rattle.cells.specs.Start.{startCell}
 use Rattle.start.proofs.Filled.{start-rest}
 use Rattle.start.proofs.start_cell.Statement.{statement}
 use Rattle.start.proofs.start_cell.Tie as tie

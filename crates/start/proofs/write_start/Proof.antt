@@ -2,9 +2,9 @@ use mathlib.Core.Path.{_≡_, _∙_}
 use Prim.Native.Nat.{_+_, _-_, _*_}
 use native.Mathlib.Omega.{arith}
 use lib.ListN.{length}
-use Rattle.component.specs.Netlist.{netlist}
-use Rattle.state.specs.Start.{startAt, started}
-use Rattle.state.proofs.Cells.{Laid, none-laid, all-laid, lent-long, laid-more}
+use Rattle.netlist.specs.Netlist.{netlistOf}
+use Rattle.cells.specs.Start.{startAt, started}
+use Rattle.cells.proofs.Cells.{Laid, none-laid, all-laid, lent-long, laid-more}
 use Rattle.start.proofs.Filled.{filling-fits, start-is}
 use Rattle.start.proofs.write_start.Statement.{statement}
 use Rattle.start.proofs.write_start.Tie as tie
@@ -13,7 +13,7 @@ use Rattle.start.proofs.write_start.Lts as lts
 use Rattle.start.proofs.start_cell.Reads as start-cell-reads
 
 abbrev Inv-loop : tie.InvT-loop
-Inv-loop table size state₀ k₀ state k = Laid (startAt (netlist (size .colours) (size .channels) (size .components) table)) (size .components) state₀ state k
+Inv-loop table size state₀ k₀ state k = Laid (startAt (netlistOf size table)) (size .components) state₀ state k
 
 abbrev μ-loop : tie.MeasureT-loop
 μ-loop table size state₀ k₀ state k = size .components - k
@@ -60,7 +60,7 @@ start-cell-requires c κs =
     let l = c .before .before .before .before .before .before .loop in
     let w : 64 * l .k + 64 - 64 * l .k ≡ 64 = omega arith in
     let t = c .before .before .before .before .if1 .taken in
-    rw w (lent-long (l .inv) t (z .pre .states), filling-fits (netlist (z .args .size .colours) (z .args .size .channels) (z .args .size .components) (z .args .table .now)) (l .k) (z .pre) t)
+    rw w (lent-long (l .inv) t (z .pre .states), filling-fits (netlistOf (z .args .size) (z .args .table .now)) (l .k) (z .pre) t)
 
 add-k : tie.Need-add-k Inv-loop μ-loop
 add-k c = omega arith
@@ -76,7 +76,7 @@ loop-again c =
     let t = c .before .before .before .before .before .before .before .if1 .taken in
     let new = c .before .before .start-cell .last .1 .1 .1 .0 in
     let long : length new ≡ 64 = rw w at (c .before .before .start-cell .kept .1 .1 .1 .0) ∙ lent-long (l .inv) t (z .pre .states) in
-    rw w (laid-more (l .inv) t (z .pre .states) new long (start-is (netlist (z .args .size .colours) (z .args .size .channels) (z .args .size .components) (z .args .table .now)) (l .k) (z .pre) t new (c .before .before .start-cell .ensures)))
+    rw w (laid-more (l .inv) t (z .pre .states) new long (start-is (netlistOf (z .args .size) (z .args .table .now)) (l .k) (z .pre) t new (c .before .before .start-cell .ensures)))
 
 same-length : tie.Need-same-length Inv-loop μ-loop
 same-length c = c .before .before .loop .inv .long

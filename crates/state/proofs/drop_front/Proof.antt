@@ -1,7 +1,8 @@
 use native.Mathlib.Omega.{arith}
 use lib.ListN.{length-set}
 use borrow.Author.Needs.{needs}
-use Rattle.state.proofs.Cells.{queue-length, queue-count, cell-dropped}
+use Rattle.cells.proofs.Cells.{queue-length, queue-count}
+use Rattle.state.proofs.Queues.{cell-dropped}
 use Rattle.state.proofs.drop_front.Statement.{statement}
 use Rattle.state.proofs.drop_front.Tie as tie
 use Rattle.state.proofs.drop_front.Reads as reads

@@ -1,7 +1,8 @@
 use native.Mathlib.Omega.{arith}
 use lib.ListN.{length-set}
 use borrow.Author.Needs.{needs}
-use Rattle.state.proofs.Cells.{queue-length, queue-count, cell-came}
+use Rattle.cells.proofs.Cells.{queue-length, queue-count}
+use Rattle.state.proofs.Queues.{cell-came}
 use Rattle.state.proofs.let_in.Statement.{statement}
 use Rattle.state.proofs.let_in.Tie as tie
 use Rattle.state.proofs.let_in.Reads as reads

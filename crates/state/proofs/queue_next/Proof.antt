@@ -1,9 +1,9 @@
 use mathlib.Core.Path.{_≡_}
 use native.Mathlib.Omega.{arith}
 use borrow.Author.Needs.{needs}
-use Rattle.state.specs.Cells.{queueColours}
+use Rattle.cells.specs.Cells.{queueColours}
 use Rattle.state.specs.Step.{dropped}
-use Rattle.state.proofs.Cells.{colours-of-cell, cell-queue}
+use Rattle.cells.proofs.Cells.{colours-of-cell, cell-queue}
 use Rattle.state.proofs.queue_next.Statement.{statement}
 use Rattle.state.proofs.queue_next.Tie as tie
 use Rattle.state.proofs.queue_next.Reads as reads

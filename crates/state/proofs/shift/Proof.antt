@@ -3,7 +3,7 @@ use Prim.Native.Nat.{_-_, _≤_}
 use native.Mathlib.Omega.{arith}
 use lib.ListN.{length, drop, length-set}
 use lib.Seq.{paste, paste-zero}
-use Rattle.state.proofs.Cells.{shift-turn}
+use Rattle.state.proofs.Queues.{shift-turn}
 use Rattle.state.proofs.shift.Statement.{statement}
 use Rattle.state.proofs.shift.Tie as tie
 use Rattle.state.proofs.shift.Reads as reads

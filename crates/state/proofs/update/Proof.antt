@@ -2,9 +2,9 @@ use mathlib.Core.Path.{_≡_, _∙_}
 use Prim.Native.Nat.{_+_, _-_, _*_}
 use native.Mathlib.Omega.{arith}
 use lib.ListN.{length}
-use Rattle.component.specs.Netlist.{netlist}
+use Rattle.netlist.specs.Netlist.{netlistOf}
 use Rattle.state.specs.Step.{nextAt, stateNext}
-use Rattle.state.proofs.Cells.{Laid, none-laid, all-laid, lent-long, laid-more}
+use Rattle.cells.proofs.Cells.{Laid, none-laid, all-laid, lent-long, laid-more}
 use Rattle.state.proofs.Turn.{port-a, port-b, cell-movable, new-is}
 use Rattle.state.proofs.update.Statement.{statement}
 use Rattle.state.proofs.update.Tie as tie
@@ -14,7 +14,7 @@ use Rattle.state.proofs.cell_next.Reads as cell-next-reads
 use Rattle.state.proofs.move_at.Reads as move-at-reads
 
 abbrev Inv-loop : tie.InvT-loop
-Inv-loop table size state₀ choices moves k₀ state k = Laid (nextAt (netlist (size .colours) (size .channels) (size .components) table) state₀ choices moves) (size .components) state₀ state k
+Inv-loop table size state₀ choices moves k₀ state k = Laid (nextAt (netlistOf size table) state₀ choices moves) (size .components) state₀ state k
 
 abbrev μ-loop : tie.MeasureT-loop
 μ-loop table size state₀ choices moves k₀ state k = size .components - k
@@ -34,7 +34,7 @@ add-move-at c = omega arith
 move-at-requires : tie.Need-move-at-requires Inv-loop μ-loop
 move-at-requires c κs =
     let z = c .before .before .before .before .before .before .before .before in
-    (omega arith, port-a (netlist (z .args .size .colours) (z .args .size .channels) (z .args .size .components) (z .args .table .now)) (z .pre) (c .before .before .before .loop .inv) (c .before .if1 .taken))
+    (omega arith, port-a (netlistOf (z .args .size) (z .args .table .now)) (z .pre) (c .before .before .before .loop .inv) (c .before .if1 .taken))
 
 add-move-at-2 : tie.Need-add-move-at-2 Inv-loop μ-loop
 add-move-at-2 c = omega arith
@@ -42,7 +42,7 @@ add-move-at-2 c = omega arith
 move-at-requires-2 : tie.Need-move-at-requires-2 Inv-loop μ-loop
 move-at-requires-2 c κs =
     let z = c .before .before .before .before .before .before .before .before .before in
-    (omega arith, port-b (netlist (z .args .size .colours) (z .args .size .channels) (z .args .size .components) (z .args .table .now)) (z .pre) (c .before .before .before .before .loop .inv) (c .before .before .if1 .taken))
+    (omega arith, port-b (netlistOf (z .args .size) (z .args .table .now)) (z .pre) (c .before .before .before .before .loop .inv) (c .before .before .if1 .taken))
 
 shared-slice-read-pick : tie.Need-shared-slice-read-pick Inv-loop μ-loop
 shared-slice-read-pick c = omega arith
@@ -68,7 +68,7 @@ cell-next-requires c κs =
     let l = c .before .before .before .before .before .before .before .loop in
     let w : 64 * l .k + 64 - 64 * l .k ≡ 64 = omega arith in
     let t = c .before .before .before .before .before .if1 .taken in
-    rw (w, c .before .before .before .move-at .ensures, c .before .before .move-at2 .ensures) (lent-long (l .inv) t (z .pre .states), cell-movable (netlist (z .args .size .colours) (z .args .size .channels) (z .args .size .components) (z .args .table .now)) (z .pre) (l .inv) t)
+    rw (w, c .before .before .before .move-at .ensures, c .before .before .move-at2 .ensures) (lent-long (l .inv) t (z .pre .states), cell-movable (netlistOf (z .args .size) (z .args .table .now)) (z .pre) (l .inv) t)
 
 add-k : tie.Need-add-k Inv-loop μ-loop
 add-k c = omega arith
@@ -85,7 +85,7 @@ loop-again c =
     let new = c .before .before .cell-next .last .1 .0 in
     let long : length new ≡ 64 = rw w at (c .before .before .cell-next .kept .1 .0) ∙ lent-long (l .inv) t (z .pre .states) in
     let is = rw (w, c .before .before .before .before .before .before .move-at .ensures, c .before .before .before .before .before .move-at2 .ensures) at (c .before .before .cell-next .ensures) in
-    rw w (laid-more (l .inv) t (z .pre .states) new long (new-is (netlist (z .args .size .colours) (z .args .size .channels) (z .args .size .components) (z .args .table .now)) (z .pre) (l .inv) t new is))
+    rw w (laid-more (l .inv) t (z .pre .states) new long (new-is (netlistOf (z .args .size) (z .args .table .now)) (z .pre) (l .inv) t new is))
 
 same-length : tie.Need-same-length Inv-loop μ-loop
 same-length c = c .before .before .loop .inv .long

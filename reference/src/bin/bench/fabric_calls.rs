@@ -10,7 +10,7 @@ use reference::state::COMPONENT_STATE;
 use reference::terms::write_proposal;
 use reference::{check, run, start, step, Fabric};
 
-use crate::fabric_library::{fabric_check, fabric_run, fabric_start, fabric_step};
+use crate::library::{fabric_check, fabric_run, fabric_start, fabric_step};
 use crate::timing::{time_alternately, Times};
 
 const STEPS: usize = 100;

@@ -1,10 +1,6 @@
 //! Times the kit's static library, called over C, against the second program.
 
-#[cfg(feature = "all-calls")]
 mod fabric_calls;
-#[cfg(feature = "all-calls")]
-#[path = "../shared/fabric_library.rs"]
-mod fabric_library;
 mod file_calls;
 #[path = "../shared/library.rs"]
 mod library;
@@ -26,7 +22,6 @@ fn main() {
     for (name, fabric) in subjects() {
         report(&name, "unpack", time_unpack(&fabric));
         report(&name, "pack", time_pack(&fabric));
-        #[cfg(feature = "all-calls")]
         fabric_calls::time_all(&fabric, |call, times| report(&name, call, times));
     }
 }

@@ -3,7 +3,6 @@
 use std::fmt;
 
 use crate::case::Call;
-use crate::options::Calls;
 
 /// Each call with the numbers it can come to, in the order of its tests.
 const CALLS: [(&str, &[u32]); 6] = [
@@ -30,21 +29,12 @@ const HIGHEST: usize = 23;
 
 type Reached = [u64; HIGHEST + 1];
 
+#[derive(Default)]
 pub struct Counts {
-    reached: Vec<Reached>,
+    reached: [Reached; CALLS.len()],
 }
 
 impl Counts {
-    pub fn new(calls: Calls) -> Counts {
-        let compared = match calls {
-            Calls::Files => column(Call::Start),
-            Calls::All => CALLS.len(),
-        };
-        Counts {
-            reached: vec![[0; HIGHEST + 1]; compared],
-        }
-    }
-
     pub fn add(&mut self, call: Call, number: u32) {
         self.reached[column(call)][number as usize] += 1;
     }
@@ -53,18 +43,15 @@ impl Counts {
         self.reached.iter().flatten().sum()
     }
 
-    /// The calls and numbers reached fewer than `least` times.
-    pub fn reached_too_seldom(&self, least: u64) -> Vec<(&'static str, u32)> {
+    /// The calls and numbers reached fewer than `least` times, and how often.
+    pub fn reached_too_seldom(&self, least: u64) -> Vec<(&'static str, u32, u64)> {
         let wanted = self.columns().flat_map(|(call, numbers, reached)| {
             let with_count = numbers
                 .iter()
                 .map(|&number| (number, reached[number as usize]));
             with_count.map(move |(number, count)| (call, number, count))
         });
-        wanted
-            .filter(|wanted| wanted.2 < least)
-            .map(|(call, number, _)| (call, number))
-            .collect()
+        wanted.filter(|&(_, _, count)| count < least).collect()
     }
 
     fn columns(&self) -> impl Iterator<Item = (&'static str, &'static [u32], &Reached)> {

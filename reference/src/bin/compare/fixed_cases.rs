@@ -11,18 +11,15 @@ use reference::Fabric;
 
 use crate::case::{Call, Case, Expected, Lent, LentCall};
 use crate::credit_loop_cases::credit_loop_cases;
-use crate::options::Calls;
 use crate::panel_cases::panel_cases;
 use crate::random_lists::long_run;
 
-pub fn fixed_cases(calls: Calls) -> Vec<Case> {
+pub fn fixed_cases() -> Vec<Case> {
     let mut cases = file_cases();
-    if calls == Calls::All {
-        cases.extend(credit_loop_cases());
-        cases.extend(panel_cases());
-        cases.push(heaviest_sum());
-        cases.extend(long_runs());
-    }
+    cases.extend(credit_loop_cases());
+    cases.extend(panel_cases());
+    cases.push(heaviest_sum());
+    cases.extend(long_runs());
     cases
 }
 

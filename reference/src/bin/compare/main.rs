@@ -15,15 +15,8 @@ mod damaged_proposal;
 mod damaged_state;
 mod damaged_table;
 mod difference;
-#[cfg(feature = "all-calls")]
-#[path = "../shared/fabric_library.rs"]
-mod fabric_library;
-#[cfg_attr(not(feature = "all-calls"), path = "no_fabric_side.rs")]
-mod fabric_side;
-#[cfg(feature = "all-calls")]
-mod fabric_sisters;
-mod file_sisters;
 mod fixed_cases;
+mod followed_sums;
 mod lent_memory;
 #[path = "../shared/library.rs"]
 mod library;
@@ -37,6 +30,7 @@ mod random_fabrics;
 mod random_lists;
 mod round_trip;
 mod second_side;
+mod sisters;
 mod trial;
 
 use std::process::ExitCode;
@@ -50,7 +44,8 @@ use options::{Options, USAGE};
 use random_cases::random_case;
 use trial::Trial;
 
-/// How often each number of each call must be reached.
+/// How often each number of each call must be reached, and how many accepted sums must be followed
+/// through a list of calls.
 const LEAST: u64 = 1000;
 
 fn main() -> ExitCode {
@@ -68,15 +63,15 @@ fn main() -> ExitCode {
 
 /// The fixed cases come first; each other case follows from the seed and its number alone.
 fn nth_case(fixed: &[Case], options: &Options, number: u64) -> Case {
-    let random = || random_case(&mut Random::new(options.seed, number), options.calls);
+    let random = || random_case(&mut Random::new(options.seed, number));
     fixed.get(number as usize).cloned().unwrap_or_else(random)
 }
 
 fn show(options: &Options, number: u64) -> ExitCode {
-    let case = nth_case(&fixed_cases(options.calls), options, number);
+    let case = nth_case(&fixed_cases(), options, number);
     println!("case {number}\n{case}");
     crash::enter_case(number);
-    match Trial::new(options.calls).run(&case) {
+    match Trial::new().run(&case) {
         Ok(answer) => {
             println!("both sides answer {answer} and agree");
             ExitCode::SUCCESS
@@ -89,8 +84,8 @@ fn show(options: &Options, number: u64) -> ExitCode {
 }
 
 fn compare(options: &Options) -> ExitCode {
-    let fixed = fixed_cases(options.calls);
-    let mut trial = Trial::new(options.calls);
+    let fixed = fixed_cases();
+    let mut trial = Trial::new();
     let mut found = None;
     let mut number = 0;
     let begin = Instant::now();
@@ -109,24 +104,40 @@ fn compare(options: &Options) -> ExitCode {
     }
     let seconds = begin.elapsed().as_secs_f64();
     println!(
-        "{number} cases, {} compared calls, {} times a sum followed, {seconds:.1} s",
+        "{number} cases, {} compared calls, {} accepted sums followed through {} calls, {seconds:.1} s",
         trial.counts.total(),
-        trial.sums_followed
+        trial.followed.sums,
+        trial.followed.calls
     );
     println!("{}", trial.counts);
-    verdict(found, &trial.counts.reached_too_seldom(LEAST))
+    verdict(found, &too_few(&trial))
 }
 
-fn verdict(found: Option<String>, seldom: &[(&str, u32)]) -> ExitCode {
+/// What the cases came to fewer than `LEAST` times.
+fn too_few(trial: &Trial) -> Vec<String> {
+    let seldom = trial.counts.reached_too_seldom(LEAST).into_iter();
+    let mut lines: Vec<String> = seldom
+        .map(|(call, number, count)| format!("{call} came to number {number}: {count} times"))
+        .collect();
+    if trial.followed.sums < LEAST {
+        let sums = trial.followed.sums;
+        lines.push(format!(
+            "accepted sums followed through lists of calls: {sums}"
+        ));
+    }
+    lines
+}
+
+fn verdict(found: Option<String>, too_few: &[String]) -> ExitCode {
     if let Some(difference) = found {
         println!("{difference}");
         return ExitCode::FAILURE;
     }
     println!("no difference");
-    for (call, number) in seldom {
-        println!("{call} came to {number} fewer than {LEAST} times");
+    for line in too_few {
+        println!("{line}, fewer than {LEAST}");
     }
-    if seldom.is_empty() {
+    if too_few.is_empty() {
         ExitCode::SUCCESS
     } else {
         ExitCode::FAILURE

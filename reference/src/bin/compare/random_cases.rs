@@ -8,14 +8,10 @@ use crate::case::{Call, Case, Expected, Lent, LentCall};
 use crate::damaged_file::random_file;
 use crate::damaged_table::random_table;
 use crate::lent_memory::Guard;
-use crate::options::Calls;
 use crate::random_calls::random_fabric_call;
 use crate::random_lists::random_list;
 
-pub fn random_case(random: &mut Random, calls: Calls) -> Case {
-    if calls == Calls::Files {
-        return random_file_case(random);
-    }
+pub fn random_case(random: &mut Random) -> Case {
     match random.below(100) {
         0..44 => random_file_case(random),
         44..56 => random_fabric_call(random, Call::Start),

@@ -2,14 +2,13 @@
 
 use reference::check::Sum;
 use reference::component::MOST_COLOURS;
-use reference::state::COMPONENT_STATE;
 
 use crate::answer::Answer;
 use crate::case::{Call, Case, Expected, Lent};
 use crate::counts::Counts;
 use crate::difference::{hex, same, same_bytes, Difference};
+use crate::followed_sums::{Followed, List};
 use crate::lent_memory::LentMemory;
-use crate::options::Calls;
 use crate::{library_side, second_side};
 
 /// At least as much as any case lends in one piece.
@@ -28,16 +27,15 @@ pub const RESULT: usize = 3;
 pub struct Trial {
     pub parts: [LentMemory; PARTS],
     pub counts: Counts,
-    /// How often an accepted sum was looked at in a state.
-    pub sums_followed: u64,
+    pub followed: Followed,
 }
 
 impl Trial {
-    pub fn new(calls: Calls) -> Trial {
+    pub fn new() -> Trial {
         Trial {
             parts: std::array::from_fn(|_| LentMemory::new(ROOM)),
-            counts: Counts::new(calls),
-            sums_followed: 0,
+            counts: Counts::default(),
+            followed: Followed::default(),
         }
     }
 
@@ -45,8 +43,7 @@ impl Trial {
     pub fn run(&mut self, case: &Case) -> Result<u32, Difference> {
         self.lend(FABRIC, &case.fabric);
         self.lend(STATE, &case.state);
-        let mut started = false;
-        let mut followed = Vec::new();
+        let mut list = List::default();
         let mut last = 0;
         for (place, lent) in case.calls.iter().enumerate() {
             self.lend(GIVEN, &lent.given);
@@ -60,18 +57,16 @@ impl Trial {
             last = answer.number;
             self.as_expected(&lent.expected, &answer)
                 .map_err(describe)?;
-            started |= lent.call == Call::Start && last == 0;
             if lent.call == Call::Check && last == 0 {
-                followed.push(self.accepted_sum(&answer));
+                list.follow(self.accepted_sum(&answer));
             }
-            if started {
-                self.same_sums(&followed).map_err(describe)?;
-                self.sums_followed += followed.len() as u64;
-            }
+            list.after(lent.call, last, self.parts[STATE].bytes())
+                .map_err(describe)?;
             if case.round_trip && last == 0 {
                 self.round_trip(lent.call, case, &answer)?;
             }
         }
+        self.followed.add(&list);
         Ok(last)
     }
 
@@ -79,19 +74,20 @@ impl Trial {
         self.parts[part].lend(&lent.bytes, lent.guard);
     }
 
-    /// Makes a call on both sides, on what is lent.
+    /// Makes a call on both sides, on what is lent, and gives the library's answer.
     pub fn call(&mut self, call: Call) -> Result<Answer, Difference> {
         let before = self.parts.each_ref().map(|part| part.bytes().to_vec());
         let mut after = before.clone();
         let second = second_side::call(call, &mut after);
         self.counts.add(call, second.number);
 
-        library_side::sisters(call, &self.parts).same_but_number(&second)?;
+        let library = library_side::sisters(call, &self.parts);
+        library.same_but_number(&second)?;
         self.same_memory("memory after the sister calls", &before)?;
         let number = library_side::call(call, &mut self.parts);
         same("number", number, second.number)?;
         self.same_memory("memory after the call", &after)?;
-        Ok(second)
+        Ok(Answer { number, ..library })
     }
 
     /// Whether the lent memory now holds these bytes.
@@ -128,7 +124,7 @@ impl Trial {
         }
     }
 
-    /// The sum whose weights an accepted check has just written.
+    /// The sum whose weights and constant the library has just given.
     fn accepted_sum(&self, answer: &Answer) -> Sum {
         let components = usize::from(self.parts[FABRIC].bytes()[COMPONENT_COUNT]);
         let entries = self.parts[RESULT].bytes().as_chunks().0;
@@ -137,12 +133,5 @@ impl Trial {
             weights: weights.map(|entry| i64::from_le_bytes(*entry)).collect(),
             constant: answer.constant,
         }
-    }
-
-    /// Each accepted sum has its constant in the state as it now is.
-    fn same_sums(&self, sums: &[Sum]) -> Result<(), Difference> {
-        let states = self.parts[STATE].bytes().as_chunks::<COMPONENT_STATE>().0;
-        let mut sums = sums.iter();
-        sums.try_for_each(|sum| same("sum and constant", sum.value(states), sum.constant))
     }
 }

@@ -12,4 +12,36 @@ extern "C" {
         file: *mut u8,
         file_len: usize,
     ) -> u32;
+    pub fn fabric_start(
+        fabric: *const u8,
+        fabric_len: usize,
+        state: *mut u8,
+        state_len: usize,
+    ) -> u32;
+    pub fn fabric_step(
+        fabric: *const u8,
+        fabric_len: usize,
+        state: *mut u8,
+        state_len: usize,
+        choices: *const u8,
+        choices_len: usize,
+        moves: *mut u8,
+        moves_len: usize,
+    ) -> u32;
+    pub fn fabric_run(
+        fabric: *const u8,
+        fabric_len: usize,
+        state: *mut u8,
+        state_len: usize,
+        choices: *const u8,
+        choices_len: usize,
+    ) -> u32;
+    pub fn fabric_check(
+        fabric: *const u8,
+        fabric_len: usize,
+        proposal: *const u8,
+        proposal_len: usize,
+        weights: *mut u8,
+        weights_len: usize,
+    ) -> u32;
 }

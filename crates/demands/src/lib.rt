@@ -1,0 +1,1 @@
+// What is promised of the calls: theorems, no code.

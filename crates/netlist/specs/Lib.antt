@@ -1,0 +1,2 @@
+pub mod Netlist
+pub mod Accepted

@@ -1,0 +1,70 @@
+//! The sister calls: they take what their call takes and write nothing.
+
+extern "C" {
+    pub fn fabric_unpack_place(
+        file: *const u8,
+        file_len: usize,
+        table: *const u8,
+        table_len: usize,
+    ) -> u64;
+    pub fn fabric_unpack_colours(
+        file: *const u8,
+        file_len: usize,
+        table: *const u8,
+        table_len: usize,
+    ) -> u64;
+    pub fn fabric_unpack_channels(
+        file: *const u8,
+        file_len: usize,
+        table: *const u8,
+        table_len: usize,
+    ) -> u64;
+    pub fn fabric_pack_place(
+        colours: u64,
+        channels: u64,
+        table: *const u8,
+        table_len: usize,
+        file: *const u8,
+        file_len: usize,
+    ) -> u64;
+    pub fn fabric_start_place(
+        fabric: *const u8,
+        fabric_len: usize,
+        state: *const u8,
+        state_len: usize,
+    ) -> u64;
+    pub fn fabric_step_place(
+        fabric: *const u8,
+        fabric_len: usize,
+        state: *const u8,
+        state_len: usize,
+        choices: *const u8,
+        choices_len: usize,
+        moves: *const u8,
+        moves_len: usize,
+    ) -> u64;
+    pub fn fabric_run_place(
+        fabric: *const u8,
+        fabric_len: usize,
+        state: *const u8,
+        state_len: usize,
+        choices: *const u8,
+        choices_len: usize,
+    ) -> u64;
+    pub fn fabric_check_place(
+        fabric: *const u8,
+        fabric_len: usize,
+        proposal: *const u8,
+        proposal_len: usize,
+        weights: *const u8,
+        weights_len: usize,
+    ) -> u64;
+    pub fn fabric_check_constant(
+        fabric: *const u8,
+        fabric_len: usize,
+        proposal: *const u8,
+        proposal_len: usize,
+        weights: *const u8,
+        weights_len: usize,
+    ) -> i64;
+}
