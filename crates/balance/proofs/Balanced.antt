@@ -6,22 +6,23 @@ use Prim.Native.Nat.{ℕ, zero, suc, _+_, _-_, _*_, _<_}
 use native.Mathlib.Omega.{arith}
 use lib.Dec.{ltb}
 use lib.ListN.{length, getD, take, drop}
+use Rattle.digits.proofs.Bools.{and-both}
 use Rattle.component.specs.Kind.{Kind, source, sink, queue, function, fork, join, switch, merge, Port, A, B, C, Use, input, output, unused, portUse}
 use Rattle.component.specs.Row.{kind, port, firstMap, secondMap, masked}
-use Rattle.netlist.specs.Netlist.{Netlist, rowOf}
 use Rattle.wiring.specs.Signals.{offerA, offerB, takeB, takeC}
-use Rattle.rules.specs.Rules.{when, offered, orElse, rule}
-use Rattle.cells.specs.Cells.{cell, queueColours}
-use Rattle.signals.specs.Signals.{componentAt, near, value, moved}
+use Rattle.netlist.specs.Netlist.{Netlist, rowOf}
+use Rattle.cells.specs.Cells.{cellSize, cell, queueColours}
 use Rattle.cells.specs.Good.{emitted}
-use Rattle.state.specs.Step.{cellNext, appended, dropped, next, CanStep}
+use Rattle.cells.specs.Counts.{counts}
 use Rattle.cells.proofs.Cells.{colours-of-cell}
-use Rattle.cells.proofs.Good.{and-right, cell-long, source-held}
+use Rattle.cells.proofs.Good.{cell-long, source-held}
 use Rattle.cells.proofs.Choices.{source-choice}
+use Rattle.rules.specs.Rules.{when, offered, orElse, rule}
+use Rattle.signals.specs.Signals.{componentAt, near, value, moved}
+use Rattle.state.specs.Step.{cellNext, appended, dropped, nextAt, next, CanStep}
 use Rattle.state.proofs.Transfers.{out-moves, in-moves}
 use Rattle.state.proofs.Updatable.{when-open, queue-out, filled}
 use Rattle.state.proofs.Step.{next-cell}
-use Rattle.cells.specs.Counts.{counts}
 use Rattle.balance.specs.Balance.{Balanced}
 use Rattle.balance.proofs.Moves.{mapped-one, mapped-two, mapped-swap, join-both, switch-both, merge-one}
 use Rattle.balance.proofs.Counts.{Front, count-next}
@@ -35,7 +36,7 @@ either-emitted r zero b h k = k
 either-emitted r (suc a) b h k = h
 
 -- a queue that is not empty has its front first
-front-first : (s : List ℕ) → length s ≡ 64 → 0 < getD s 0 0 → queueColours s ≡ getD s 1 0 ∷ take (getD s 0 0 - 1) (drop 2 s)
+front-first : (s : List ℕ) → length s ≡ cellSize → 0 < getD s 0 0 → queueColours s ≡ getD s 1 0 ∷ take (getD s 0 0 - 1) (drop 2 s)
 unfolding queueColours
 front-first [] l h = absurd (omega arith)
 front-first (zero ∷ s) l h = absurd (omega arith)
@@ -78,11 +79,11 @@ module _ (f : Netlist) (ends order state choices : List ℕ) (s : CanStep f ends
       let m : moved f state choices (port row A) ≡ when g o = through-port source e A in
       let p : 0 < when g o = omega arith in
       let i : o ≡ suc d = sym (when-is g o p) ∙ sym m ∙ q in
-      and-right (ltb d 8) (masked row d)
-      (subst (λ (b : ℕ). emitted row b ≡ true) i (either-emitted row a b (source-held f state (s .good) k h e) (source-choice f choices (s .allowed) k h e)))
+      and-both (ltb d 8) (masked row d)
+      (subst (λ (b : ℕ). emitted row b ≡ true) i (either-emitted row a b (source-held f state (s .good) k h e) (source-choice f choices (s .allowed) k h e))) .1
 
   queue-balanced : kind row ≡ queue → Balanced queue row (moved f state choices) (counts state k) (counts (next f state choices) k)
-  unfolding cellNext Balanced
+  unfolding nextAt cellNext moved Balanced
   queue-balanced e d = rw after (count-next ma mb cs front d)
     where
       ma : ℕ

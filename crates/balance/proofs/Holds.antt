@@ -8,18 +8,18 @@ use native.Mathlib.Omega.{arith}
 use lib.Dec.{ltb, eqb, eqb·zero-suc, eqb·suc-suc}
 use lib.IntN.{+ℤ-comm, pos, _+ℤ_, _-ℤ_}
 use borrow.Author.Tests.{ltb-true, eqb-true, eq-eqb, ne-eqb, not-true}
+use Rattle.digits.proofs.Bools.{and-both}
 use Rattle.component.specs.Kind.{Kind, source, sink, queue, function, fork, join, switch, merge, Port, A, B, C, isQueue}
 use Rattle.component.specs.Row.{kind, port, firstMap, secondMap, masked}
 use Rattle.netlist.specs.Netlist.{Netlist, rowOf}
+use Rattle.cells.specs.Counts.{counts}
 use Rattle.rules.specs.Rules.{bit, offered, when, unless, mapped, toB}
 use Rattle.signals.specs.Signals.{moved}
 use Rattle.state.specs.Step.{next, CanStep}
-use Rattle.cells.proofs.Good.{and-left, and-right}
 use Rattle.state.proofs.Bounds.{moved-le}
 use Rattle.equations.specs.Equations.{flow, mappedTo, allOf, less, side, hasIndex, hasEquation, factor}
-use Rattle.cells.specs.Counts.{counts}
-use Rattle.balance.specs.Balance.{Balanced, transfer}
 use Rattle.flows.specs.Steps.{flowChange, countChange, Holds}
+use Rattle.balance.specs.Balance.{Balanced, transfer}
 use Rattle.balance.proofs.Sums.{total, Amounts, amounts-part, amounts-less, amounts-even, amounts-when, amounts-cond, grown-less, still}
 use Rattle.balance.proofs.Balanced.{balanced}
 
@@ -83,7 +83,7 @@ module _ (f : Netlist) (t : ℕ → ℕ) (r : List ℕ) (inside : (p : Port) →
 
     by-kind : (k : Kind) → Balanced k r t n m → hasIndex k r (f .colours) i ≡ true → cond (isQueue k) (pos (m i) -ℤ pos (n i)) (pos 0) +ℤ total f t (side k r i) ≡ pos 0
     unfolding Balanced hasIndex isQueue side
-    by-kind source b x = still (subst (Amounts f t _) (unmasked b (not-true (masked r i) (and-right (ltb i (f .colours)) (not (masked r i)) x))) (one A i))
+    by-kind source b x = still (subst (Amounts f t _) (unmasked b (not-true (masked r i) (and-both (ltb i (f .colours)) (not (masked r i)) x .1))) (one A i))
     by-kind sink b x = absurd (true≢false (sym x))
     by-kind queue b x = grown-less (m i) (n i) (b i) (one B i) (one A i)
     by-kind function b x = still (maps B (firstMap r) i b)
@@ -103,10 +103,10 @@ holds f ends order state choices s = record {
       let t = moved f state choices in
       let r = rowOf f k in
       let own : Bool = hasIndex (kind r) r (f .colours) i in
-      let h : k < f .components = ltb-true k (f .components) (and-left (ltb k (f .components)) own x) in
+      let h : k < f .components = ltb-true k (f .components) (and-both (ltb k (f .components)) own x .0) in
       let ports = s .accepted .rows k h .ports in
       let small : (p : Port) → t (port r p) ≤ f .colours = λ p. moved-le f ends order state choices s (port r p) (ports p) in
       rw x
       (+ℤ-comm (total f t (side (kind r) r i)) (cond (isQueue (kind r)) (pos (counts (next f state choices) k i) -ℤ pos (counts state k i)) (pos 0))
-      ∙ by-kind f t r ports small (counts state k) (counts (next f state choices) k) i (kind r) (balanced f ends order state choices s k h) (and-right (ltb k (f .components)) own x));
+      ∙ by-kind f t r ports small (counts state k) (counts (next f state choices) k) i (kind r) (balanced f ends order state choices s k h) (and-both (ltb k (f .components)) own x .1));
 }

@@ -6,10 +6,10 @@ use native.Mathlib.Omega.{arith}
 use lib.Dec.{eqb}
 use lib.IntN.{ℤ, pos, negℤ, _+ℤ_, _-ℤ_, _*ℤ_, +ℤ-invr, +ℤ-negℤ-cancel, zero-*ℤ, *ℤ-zero, *ℤ-one, one, negℤ-+ℤ, pos-+ℤ-pos}
 use borrow.Author.Tests.{eq-eqb, ne-eqb}
-use Rattle.netlist.specs.Netlist.{Netlist}
 use Rattle.integers.specs.Sum.{sumTo, same}
 use Rattle.integers.proofs.Ring.{regroup, distrib-r, neg-*ℤ}
 use Rattle.integers.proofs.Sum.{sum-cong, sum-zero, sum-add, sum-minus, sum-only, same-yes, same-no}
+use Rattle.netlist.specs.Netlist.{Netlist}
 use Rattle.equations.specs.Equations.{Side, less, sideIf}
 use Rattle.balance.specs.Balance.{transfer}
 

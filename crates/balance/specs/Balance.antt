@@ -6,10 +6,10 @@ use mathlib.Core.List.{List}
 use Prim.Native.Nat.{ℕ, suc, _+_}
 use lib.Dec.{eqb}
 use lib.IntN.{ℤ}
+use Rattle.integers.specs.Sum.{same}
 use Rattle.component.specs.Kind.{Kind, source, sink, queue, function, fork, join, switch, merge, A, B, C}
 use Rattle.component.specs.Row.{port, firstMap, secondMap, masked}
 use Rattle.rules.specs.Rules.{bit, when, unless, offered, mapped, toB}
-use Rattle.integers.specs.Sum.{same}
 
 -- at one component: n d and m d are its counts of d
 unfoldable pub Balanced : Kind → List ℕ → (ℕ → ℕ) → (ℕ → ℕ) → (ℕ → ℕ) → Type 0

@@ -8,19 +8,19 @@ use lib.ListN.{length}
 use Rattle.refusals.specs.Refusals.{kept}
 use Rattle.refusals.specs.declared.Verdict.{Verdict}
 use Rattle.refusals.specs.declared.Verdict.the-variants.{Accepted, Refused}
-use Rattle.reader.specs.File.{netlistIn}
 use Rattle.netlist.specs.Accepted.{AcceptedFabric}
+use Rattle.reader.specs.File.{netlistIn}
 use Rattle.reader.proofs.Opened.{facts}
 use Rattle.cells.specs.Good.{Good}
 use Rattle.cells.specs.Choices.{Allowed}
 use Rattle.cells.specs.Start.{started}
-use Rattle.state.specs.Step.{next}
 use Rattle.cells.proofs.Start.{good-start}
+use Rattle.state.specs.Step.{next}
 use Rattle.state.proofs.Step.{good-step}
-use Rattle.stepping.specs.Calls.{startVerdict, stateAfterStart, stepVerdict, stateAfterStep, afterSteps, runVerdict, stateAfterRun}
-use Rattle.stepping.proofs.Starting.{started-file, start-writes}
-use Rattle.stepping.proofs.Stepping.{step-allowed}
-use Rattle.stepping.proofs.Running.{run-allowed, steps-keep}
+use Rattle.steps.specs.Steps.{afterSteps}
+use Rattle.steps.proofs.Steps.{steps-keep}
+use Rattle.stepping.specs.Calls.{startVerdict, stateAfterStart, stepVerdict, stateAfterStep, runVerdict, stateAfterRun}
+use Rattle.stepping.proofs.Calls.{started-file, start-writes, step-allowed, run-allowed}
 use Rattle.calls.specs.Calls.{Call, start, step, run, stateAfter, stateAfterAll}
 
 -- a property of states, of an accepted file: it holds at start, and a step under allowed choices keeps it in a good state

@@ -12,13 +12,13 @@ use Rattle.record.specs.Table.{openTable, records}
 use Rattle.record.proofs.Table.{length-rows}
 use Rattle.component.specs.Kind.{kindOf, portOf, portUse, usesFirstMap, usesSecondMap, usesMask, isSource, isQueue}
 use Rattle.component.specs.Row.{rowOk}
-use Rattle.netlist.specs.Netlist.{netlist, sized}
 use Rattle.wiring.specs.Ends.{firstUnmatched}
 use Rattle.wiring.specs.Signals.{dependsOn, nearOf, endOf, dependence}
 use Rattle.wiring.specs.Stages.{Kinds}
+use Rattle.netlist.specs.Netlist.{netlist, sized}
+use Rattle.netlist.specs.Accepted.{AcceptedFabric}
 use Rattle.reader.specs.File.{headerFields, firstBadRecord}
 use Rattle.reader.specs.Reading.{reading, ReadOf}
-use Rattle.netlist.specs.Accepted.{AcceptedFabric}
 use Rattle.reader.specs.Stages.{Unpacking}
 use Rattle.reader.specs.declared.Reading.{Reading}
 use Rattle.reader.specs.declared.Reading.the-variants.{Fabric}

@@ -9,9 +9,9 @@ use Rattle.component.specs.Kind.{kindOf, portOf, portUse, usesFirstMap, usesSec
 use Rattle.component.specs.Row.{rowOk}
 use Rattle.wiring.specs.Ends.{firstUnmatched}
 use Rattle.wiring.specs.Signals.{dependsOn, nearOf, endOf, dependence}
+use Rattle.netlist.specs.Netlist.{sized}
 use Rattle.reader.specs.File.{headerFields, firstBadRecord}
 use Rattle.reader.specs.Reading.{reading}
-use Rattle.netlist.specs.Netlist.{sized}
 use Rattle.reader.specs.declared.Reading.the-variants.{Fabric}
 use Rattle.fabric.specs.PackedFile.{headerBytes, packedFile}
 use Rattle.cases.specs.EightKinds.{eightTable, eightFile}

@@ -10,30 +10,29 @@ use Rattle.record.specs.Table.{openTable, records}
 use Rattle.record.specs.Record.{recordRow, recordBytes}
 use Rattle.component.specs.Kind.{kindOf}
 use Rattle.netlist.specs.Netlist.{Netlist, netlist, sized}
-use Rattle.netlist.specs.Accepted.{AcceptedFabric}
+use Rattle.netlist.specs.Accepted.{AcceptedFabric, AcceptedNetlist}
 use Rattle.reader.specs.Reading.{ReadOf}
 use Rattle.reader.specs.declared.Reading.{Reading}
-use Rattle.plan.specs.Plan.{planned}
-use Rattle.plan.proofs.Plan.{is-planned}
 use Rattle.fabric.specs.PackedFile.{headerBytes, packedFile}
-use Rattle.signals.specs.Signals.{moved, moves}
-use Rattle.signals.specs.Channels.{Ready}
 use Rattle.cells.specs.Choices.{goodChoice, choiceAt, badChoice}
 use Rattle.cells.specs.Start.{started}
+use Rattle.cells.specs.Counts.{counts}
+use Rattle.cells.specs.Cells.{cellSize}
+use Rattle.cells.proofs.Choices.{no-bad-choice}
+use Rattle.cells.proofs.Start.{good-start}
+use Rattle.plan.specs.Plan.{planned}
+use Rattle.plan.proofs.Plan.{is-planned}
+use Rattle.signals.specs.Signals.{value, moved}
+use Rattle.signals.specs.Channels.{Ready}
 use Rattle.state.specs.Step.{next, CanStep}
 use Rattle.state.specs.Updatable.{Updatable}
 use Rattle.state.proofs.Bounds.{steps-ready}
-use Rattle.cells.proofs.Choices.{no-bad-choice}
-use Rattle.cells.proofs.Start.{good-start}
 use Rattle.state.proofs.Updatable.{updatable}
 use Rattle.start.specs.Startable.{Startable}
 use Rattle.start.proofs.Startable.{startable}
 use Rattle.flows.specs.Steps.{Holds}
-use Rattle.flows.specs.Verdict.{ReadFabric}
 use Rattle.balance.specs.Balance.{transfer}
-use Rattle.cells.specs.Counts.{counts}
 use Rattle.balance.proofs.Holds.{holds}
-use Rattle.checking.proofs.Checking.{read-fabric}
 use Rattle.cases.specs.CreditLoop.{creditTable, creditFile}
 use Rattle.cases.specs.EightKinds.{eightTable, eightFile}
 use Rattle.cases.proofs.CreditLoop.{credit-accepted}
@@ -41,7 +40,7 @@ use Rattle.cases.proofs.EightKinds.{eight-reads}
 
 -- what an accepted fabric gives under choices that none refuses
 module _ (f : Netlist) (ends order : List ℕ) (a : AcceptedFabric f ends order) (choices : List ℕ) (long : length choices ≡ f .components) (none : badChoice f choices ≡ length choices)
-    (state : List ℕ) (room : 64 * f .components ≤ length state) where
+    (state : List ℕ) (room : cellSize * f .components ≤ length state) where
   pub startable-met : Startable (f .table) (f .components) state
   startable-met = startable f ends order a state room
 
@@ -53,11 +52,12 @@ module _ (f : Netlist) (ends order : List ℕ) (a : AcceptedFabric f ends order)
       Ready f (upTo (12 * f .channels) (planned f order) ++ drop (12 * f .channels) memory) (started f state) choices
   ready-met memory l = steps-ready f ends order (started f state) choices steps-met (is-planned a memory _ l refl)
 
-  pub updatable-met : Updatable (f .table) (f .components) (started f state) choices (moves f (started f state) choices ++ [])
-  updatable-met = updatable f ends order (started f state) choices steps-met []
+  -- with the signals in memory
+  pub updatable-met : (rest : List ℕ) → Updatable (f .table) (f .components) (started f state) (upTo (2 * f .channels) (value f (started f state) choices) ++ rest)
+  updatable-met rest = updatable f ends order (started f state) choices steps-met _ rest refl
 
-  pub read-met : ReadFabric f
-  read-met = read-fabric a
+  pub netlist-met : AcceptedNetlist f
+  netlist-met = record { ends = ends; order = order; facts = a }
 
   pub holds-met : Holds f (transfer (moved f (started f state) choices)) (counts (started f state)) (counts (next f (started f state) choices))
   holds-met = holds f ends order (started f state) choices steps-met

@@ -5,23 +5,24 @@ use Prim.Native.Nat.{ℕ, _*_, _%_, _≤_}
 use native.Mathlib.Omega.{arith}
 use lib.ListN.{length, replicate, take}
 use lib.IntN.{pos, negsuc}
-use Rattle.integers.specs.Sum.{sumTo, isZero}
 use Rattle.digits.specs.Least.{least}
 use Rattle.digits.specs.Count.{count}
 use Rattle.digits.specs.UpTo.{upTo}
+use Rattle.integers.specs.Sum.{sumTo, isZero}
 use Rattle.order.specs.Graph.{Circular, any, walks, hasCircle}
+use Rattle.refusals.specs.Refusals.{firstRefusal}
+use Rattle.refusals.specs.declared.Refusal.the-variants.{Circle}
+use Rattle.refusals.specs.declared.Verdict.the-variants.{Accepted, Refused}
 use Rattle.record.specs.Record.{recordRow, recordPad, recordBytes}
 use Rattle.record.specs.Table.{openTable, records}
 use Rattle.component.specs.Kind.{kindOf, portOf, portUse, usesFirstMap, usesSecondMap, usesMask, isSource, isQueue}
 use Rattle.component.specs.Row.{rowOk}
-use Rattle.netlist.specs.Netlist.{Netlist}
 use Rattle.wiring.specs.Ends.{firstUnmatched}
 use Rattle.wiring.specs.Signals.{dependsOn, nearOf, endOf, dependence}
-use Rattle.refusals.specs.Refusals.{firstRefusal}
-use Rattle.refusals.specs.declared.Refusal.the-variants.{Circle}
-use Rattle.refusals.specs.declared.Verdict.the-variants.{Accepted, Refused}
+use Rattle.netlist.specs.Netlist.{Netlist}
 use Rattle.reader.specs.File.{netlistIn, headerFields, firstBadRow, firstBadRecord, fileTests}
 use Rattle.reader.proofs.Accepted.{accepted-parts}
+use Rattle.reader.proofs.Opened.{facts}
 use Rattle.fabric.specs.PackedFile.{headerBytes, packedFile}
 use Rattle.cells.specs.Cells.{queueColours, cellWith, cells}
 use Rattle.cells.specs.Good.{Good}
@@ -30,13 +31,12 @@ use Rattle.cells.specs.Start.{startCell, startAt, started}
 use Rattle.cells.proofs.Choices.{no-bad-choice, no-bad-step}
 use Rattle.cells.proofs.Start.{good-start}
 use Rattle.equations.specs.Equations.{side, hasIndex, hasEquation, factor}
-use Rattle.flows.specs.Terms.{component, index, multiplier}
+use Rattle.flows.specs.Terms.{componentOf, index, multiplier}
 use Rattle.flows.specs.Flows.{flowSum, weight, entry}
 use Rattle.flows.specs.Verdict.{bytesBy, badTerm, isLeft, isWeight}
 use Rattle.stepping.specs.Calls.{startVerdict, stateAfterStart, stepVerdict, runVerdict}
 use Rattle.checking.specs.Check.{checkVerdict, bytesAfterCheck}
 use Rattle.demands.specs.Demands.{entryOfBytes, sumRead}
-use Rattle.reader.proofs.Opened.{facts}
 use Rattle.demands.proofs.Demands.{circleExactly, stepAccepted, runAccepted}
 use Rattle.cases.specs.CreditLoop.{creditTable, creditFile, forkIntoJoin}
 use Rattle.cases.specs.Starred.{five}
@@ -55,7 +55,7 @@ pub credit-read : (upTo 48 (entryOfBytes written) ≡ replicate 16 (pos 0) ++ (p
     × (sumRead (netlistIn creditFile) (entryOfBytes written) (stateAfterStart creditFile (replicate 384 7)) ≡ pos 2)
 unfolding creditTable creditFile packedFile headerBytes headerFields records recordBytes recordRow recordPad openTable firstBadRow firstBadRecord firstUnmatched
     endOf dependence dependsOn nearOf least count any walks hasCircle rowOk kindOf portOf portUse usesFirstMap usesSecondMap usesMask isSource isQueue netlistIn
-    checkVerdict bytesAfterCheck bytesBy sumTo isZero side hasIndex hasEquation factor component index multiplier flowSum weight entry badTerm isLeft isWeight upTo
+    checkVerdict bytesAfterCheck bytesBy sumTo isZero side hasIndex hasEquation factor componentOf index multiplier flowSum weight entry badTerm isLeft isWeight upTo
     entryOfBytes sumRead startVerdict stateAfterStart started cells startAt startCell cellWith queueColours
 credit-read = (refl, refl)
 

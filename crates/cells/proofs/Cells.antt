@@ -8,22 +8,22 @@ use native.Mathlib.Decide.{ℕ-discrete}
 use lib.ListN.{length, getD, take, drop, replicate, length-append, length-take, length-drop, length-replicate}
 use lib.Seq.{take-at, drop-at, drop-drop, take-append-seam}
 use borrow.Rule.Slice.PartMut.{putMid, same-len-mid}
-use Rattle.cells.specs.Cells.{cell, queueColours, cellWith, cells, Queue}
+use Rattle.cells.specs.Cells.{cell, queueColours, cellWith, cells, Queue, cellSize}
 
 module _ (g : ℕ → List ℕ) where
-  pub cells-long : (n : ℕ) → ((k : ℕ) → k < n → length (g k) ≡ 64) → length (cells g n) ≡ 64 * n
+  pub cells-long : (n : ℕ) → ((k : ℕ) → k < n → length (g k) ≡ cellSize) → length (cells g n) ≡ cellSize * n
   unfolding cells
   cells-long zero l = refl
   cells-long (suc n) l = rw (length-append, cells-long n (λ k h. l k (omega arith)), l n (omega arith)) (omega arith)
 
-  pub cells-at : (n : ℕ) → ((k : ℕ) → k < n → length (g k) ≡ 64) → (rest : List ℕ) (k : ℕ) → k < n → take 64 (drop (64 * k) (cells g n ++ rest)) ≡ g k
+  pub cells-at : (n : ℕ) → ((k : ℕ) → k < n → length (g k) ≡ cellSize) → (rest : List ℕ) (k : ℕ) → k < n → take cellSize (drop (cellSize * k) (cells g n ++ rest)) ≡ g k
   unfolding cells
   cells-at zero l rest k h = absurd (omega arith)
   cells-at (suc n) l rest k h = rw append-assoc (go (cells-at n (λ k h. l k (omega arith)) (g n ++ rest) k) (ℕ-discrete k n))
     where
-      go : (k < n → take 64 (drop (64 * k) (cells g n ++ (g n ++ rest))) ≡ g k) → Dec (k ≡ n) → take 64 (drop (64 * k) (cells g n ++ (g n ++ rest))) ≡ g k
+      go : (k < n → take cellSize (drop (cellSize * k) (cells g n ++ (g n ++ rest))) ≡ g k) → Dec (k ≡ n) → take cellSize (drop (cellSize * k) (cells g n ++ (g n ++ rest))) ≡ g k
       go r (yes e) =
-          rw (e, drop-at (cells g n) (g n ++ rest) (64 * n) (cells-long n (λ k h. l k (omega arith))), take-at (g n) rest 64 (l n (omega arith)))
+          rw (e, drop-at (cells g n) (g n ++ rest) (cellSize * n) (cells-long n (λ k h. l k (omega arith))), take-at (g n) rest cellSize (l n (omega arith)))
       go r (no e) = r (omega arith)
 
 pub cells-suc : (g : ℕ → List ℕ) (n : ℕ) → cells g (suc n) ≡ cells g n ++ g n
@@ -41,30 +41,30 @@ cells-same g h (suc n) e = rw (cells-same g h n (λ k l. e k (omega arith)), e n
 pub record Laid (g : ℕ → List ℕ) (n : ℕ) (state st : List ℕ) (k : ℕ) : Type 0 where
   pub few : k ≤ n
   pub long : length st ≡ length state
-  pub whole : length (cells g k) ≡ 64 * k
-  pub is : st ≡ cells g k ++ drop (64 * k) state
+  pub whole : length (cells g k) ≡ cellSize * k
+  pub is : st ≡ cells g k ++ drop (cellSize * k) state
 
 pub none-laid : (g : ℕ → List ℕ) (n : ℕ) (state : List ℕ) → Laid g n state state 0
 unfolding cells
 none-laid g n state = record { few = omega arith; long = refl; whole = refl; is = refl }
 
-pub all-laid : {g : ℕ → List ℕ} {n : ℕ} {state st : List ℕ} {k : ℕ} → Laid g n state st k → n ≤ k → st ≡ cells g n ++ drop (64 * n) state
+pub all-laid : {g : ℕ → List ℕ} {n : ℕ} {state st : List ℕ} {k : ℕ} → Laid g n state st k → n ≤ k → st ≡ cells g n ++ drop (cellSize * n) state
 all-laid {g} {n} {state} {st} {k} u h =
     let e : k ≡ n = omega (arith, u .few) in
-    u .is ∙ ap (λ (i : ℕ). cells g i ++ drop (64 * i) state) e
+    u .is ∙ ap (λ (i : ℕ). cells g i ++ drop (cellSize * i) state) e
 
 -- one turn: a part of 64 bytes is lent and comes back as new
-module _ {g : ℕ → List ℕ} {n : ℕ} {state st : List ℕ} {k : ℕ} (u : Laid g n state st k) (h : k < n) (fits : 64 * n ≤ length state) where
-  pub lent-long : length (cell st k) ≡ 64
+module _ {g : ℕ → List ℕ} {n : ℕ} {state st : List ℕ} {k : ℕ} (u : Laid g n state st k) (h : k < n) (fits : cellSize * n ≤ length state) where
+  pub lent-long : length (cell st k) ≡ cellSize
   lent-long = simp (length-take, length-drop) (omega (arith, u .long))
 
   pub lent-is : cell st k ≡ cell state k
-  lent-is = rw (u .is) (rw (drop-at (cells g k) (drop (64 * k) state) (64 * k) (u .whole)))
+  lent-is = rw (u .is) (rw (drop-at (cells g k) (drop (cellSize * k) state) (cellSize * k) (u .whole)))
 
-  pub laid-more : (new : List ℕ) → length new ≡ 64 → new ≡ g k → Laid g n state (putMid (64 * k) 64 st new) (k + 1)
+  pub laid-more : (new : List ℕ) → length new ≡ cellSize → new ≡ g k → Laid g n state (putMid (cellSize * k) cellSize st new) (k + 1)
   laid-more new long e = record {
     few = omega arith;
-    long = same-len-mid (64 * k) 64 st new (long ∙ sym lent-long) ∙ u .long;
+    long = same-len-mid (cellSize * k) cellSize st new (long ∙ sym lent-long) ∙ u .long;
     whole = rw (more, length-append, u .whole, long) (omega arith);
     is = rw (u .is, more) turn;
   }
@@ -72,24 +72,24 @@ module _ {g : ℕ → List ℕ} {n : ℕ} {state st : List ℕ} {k : ℕ} (u : L
       more : cells g (k + 1) ≡ cells g k ++ new
       more = ap (cells g) (add-one k) ∙ cells-suc g k ∙ ap (λ (l : List ℕ). cells g k ++ l) (sym e)
 
-      turn : putMid (64 * k) 64 (cells g k ++ drop (64 * k) state) new ≡ (cells g k ++ new) ++ drop (64 * (k + 1)) state
+      turn : putMid (cellSize * k) cellSize (cells g k ++ drop (cellSize * k) state) new ≡ (cells g k ++ new) ++ drop (cellSize * (k + 1)) state
       turn =
-          let i : 64 * k + 64 ≡ 64 * (k + 1) = omega arith in
+          let i : cellSize * k + cellSize ≡ cellSize * (k + 1) = omega arith in
           rw (
-            take-at (cells g k) (drop (64 * k) state) (64 * k) (u .whole),
-            drop-at (cells g k) (drop (64 * k) state) (64 * k) (u .whole),
-            drop-drop 64 (64 * k) state,
+            take-at (cells g k) (drop (cellSize * k) state) (cellSize * k) (u .whole),
+            drop-at (cells g k) (drop (cellSize * k) state) (cellSize * k) (u .whole),
+            drop-drop cellSize (cellSize * k) state,
             i,
             append-assoc,
           )
 
 -- ---- a queue's bytes
 
-cell-length : (cs : List ℕ) → length cs ≤ 63 → length (cellWith cs) ≡ 64
+cell-length : (cs : List ℕ) → length cs ≤ 63 → length (cellWith cs) ≡ cellSize
 unfolding cellWith
 cell-length cs h = simp (length-append, length-replicate) (omega arith)
 
-pub queue-length : (cell : List ℕ) → Queue cell → length cell ≡ 64
+pub queue-length : (cell : List ℕ) → Queue cell → length cell ≡ cellSize
 queue-length cell z = ap length (z .shape) ∙ cell-length (queueColours cell) (z .fits)
 
 pub queue-count : (cell : List ℕ) → Queue cell → getD cell 0 0 ≡ length (queueColours cell)

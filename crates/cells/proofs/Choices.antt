@@ -10,8 +10,8 @@ use lib.Seq.{getD-drop, getD-take}
 use borrow.Author.Tests.{not-false}
 use Rattle.digits.proofs.Least.{least-none, least-before}
 use Rattle.component.specs.Kind.{source}
-use Rattle.netlist.specs.Netlist.{Netlist, rowOf}
 use Rattle.component.specs.Row.{kind}
+use Rattle.netlist.specs.Netlist.{Netlist, rowOf}
 use Rattle.cells.specs.Choices.{goodChoice, Allowed, stepChoices, choiceAt, badChoice}
 use Rattle.cells.specs.Good.{emitted}
 

@@ -1,6 +1,6 @@
 -- What a good state says of a component, and which states have no bad one. Assumes nothing.
-use mathlib.Core.Path.{_≡_, refl, sym, ap, _∙_}
-use mathlib.Core.Bool.{Bool, true, false, not, cond, _&&_, true≢false}
+use mathlib.Core.Path.{_≡_, refl, ap, _∙_}
+use mathlib.Core.Bool.{Bool, true, not, cond}
 use mathlib.Core.List.{List, [], _∷_, _++_}
 use Prim.Native.Nat.{ℕ, zero, suc, _+_, _-_, _*_, _≤_, _<_}
 use native.Mathlib.Omega.{arith}
@@ -9,29 +9,22 @@ use lib.Dec.{ltb, eqb, lit<}
 use lib.ListN.{length, getD, take, drop, replicate, length-take, length-drop, take-append-drop, List·getD-append}
 use lib.Seq.{getD-drop}
 use borrow.Author.Tests.{ltb-true, leb-true, eqb-true, lt-ltb, le-ltb, le-leb, not-false}
+use Rattle.digits.proofs.Bools.{and-both}
 use Rattle.digits.proofs.Least.{least-none, least-before}
-use Rattle.component.specs.Kind.{source, sink, queue}
-use Rattle.netlist.specs.Netlist.{Netlist, rowOf}
+use Rattle.component.specs.Kind.{source, queue}
 use Rattle.component.specs.Row.{kind, masked, capacity}
+use Rattle.netlist.specs.Netlist.{Netlist, rowOf}
 use Rattle.netlist.specs.Accepted.{AcceptedFabric}
-use Rattle.cells.specs.Cells.{cell, queueColours, cellWith, Queue}
+use Rattle.cells.specs.Cells.{cell, queueColours, cellWith, Queue, cellSize}
 use Rattle.cells.specs.Good.{emitted, goodByte, all, goodCell, Good, badComponent}
-
-pub and-left : (a b : Bool) → (a && b) ≡ true → a ≡ true
-and-left true b h = refl
-and-left false b h = h
-
-pub and-right : (a b : Bool) → (a && b) ≡ true → b ≡ true
-and-right true b h = h
-and-right false b h = absurd (true≢false (sym h))
 
 pub all-at : (n : ℕ) (p : ℕ → Bool) → all n p ≡ true → (j : ℕ) → j < n → p j ≡ true
 unfolding all
 all-at zero p h j l = absurd (omega arith)
-all-at (suc n) p h j l = go (all-at n p (and-left (all n p) (p n) h) j) (ℕ-discrete j n)
+all-at (suc n) p h j l = go (all-at n p (and-both (all n p) (p n) h .0) j) (ℕ-discrete j n)
   where
     go : (j < n → p j ≡ true) → Dec (j ≡ n) → p j ≡ true
-    go r (yes e) = rw e (and-right (all n p) (p n) h)
+    go r (yes e) = rw e (and-both (all n p) (p n) h .1)
     go r (no e) = r (omega arith)
 
 pub all-of : (n : ℕ) (p : ℕ → Bool) → ((j : ℕ) → j < n → p j ≡ true) → all n p ≡ true
@@ -39,27 +32,23 @@ unfolding all
 all-of zero p h = refl
 all-of (suc n) p h = rw (all-of n p (λ j l. h j (omega arith)), h n (omega arith))
 
-pub cell-long : (state : List ℕ) (k n : ℕ) → 64 * n ≤ length state → k < n → length (cell state k) ≡ 64
+pub cell-long : (state : List ℕ) (k n : ℕ) → cellSize * n ≤ length state → k < n → length (cell state k) ≡ cellSize
 cell-long state k n h l = simp (length-take, length-drop) (omega arith)
 
 -- an emitted colour is one of the fabric's
 pub emitted-le : (f : Netlist) (ends order : List ℕ) → AcceptedFabric f ends order → (k : ℕ) → k < f .components → (b : ℕ) → emitted (rowOf f k) b ≡ true → b ≤ f .colours
 emitted-le f ends order a k h zero e = omega arith
 emitted-le f ends order a k h (suc d) e =
-    a .rows k h .masks d (ltb-true d 8 (and-left (ltb d 8) (masked (rowOf f k) d) e)) (and-right (ltb d 8) (masked (rowOf f k) d) e)
+    a .rows k h .masks d (ltb-true d 8 (and-both (ltb d 8) (masked (rowOf f k) d) e .0)) (and-both (ltb d 8) (masked (rowOf f k) d) e .1)
 
 module _ (f : Netlist) (state : List ℕ) (g : Good f state) (k : ℕ) (h : k < f .components) where
-  pub good-byte : (j : ℕ) → j < 64 → goodByte (kind (rowOf f k)) (rowOf f k) (f .colours) (getD (cell state k) 0 0) j (getD (cell state k) j 0) ≡ true
+  pub good-byte : (j : ℕ) → j < cellSize → goodByte (kind (rowOf f k)) (rowOf f k) (f .colours) (getD (cell state k) 0 0) j (getD (cell state k) j 0) ≡ true
   unfolding goodCell
-  good-byte j l = all-at 64 (λ j. goodByte (kind (rowOf f k)) (rowOf f k) (f .colours) (getD (cell state k) 0 0) j (getD (cell state k) j 0)) (g .each k h) j l
+  good-byte j l = all-at cellSize (λ j. goodByte (kind (rowOf f k)) (rowOf f k) (f .colours) (getD (cell state k) 0 0) j (getD (cell state k) j 0)) (g .each k h) j l
 
   pub source-held : kind (rowOf f k) ≡ source → emitted (rowOf f k) (getD (cell state k) 0 0) ≡ true
   unfolding goodByte
   source-held e = rw e at (good-byte 0 (lit< tt))
-
-  pub sink-held : kind (rowOf f k) ≡ sink → getD (cell state k) 0 0 < 2
-  unfolding goodByte
-  sink-held e = ltb-true _ _ (rw e at (good-byte 0 (lit< tt)))
 
   pub queue-count-le : kind (rowOf f k) ≡ queue → getD (cell state k) 0 0 ≤ capacity (rowOf f k)
   unfolding goodByte
@@ -80,7 +69,7 @@ zeros [] h = refl
 zeros (x ∷ l) h = cc (h 0 (omega arith), zeros l (λ j m. h (suc j) (omega arith)))
 
 -- a list of a count, colours and zeros is a queue's cell
-whole : (s : List ℕ) → length s ≡ 64 → getD s 0 0 ≤ 63 → ((j : ℕ) → j < 63 → getD s 0 0 ≤ j → getD s (suc j) 0 ≡ 0) → Queue s
+whole : (s : List ℕ) → length s ≡ cellSize → getD s 0 0 ≤ 63 → ((j : ℕ) → j < 63 → getD s 0 0 ≤ j → getD s (suc j) 0 ≡ 0) → Queue s
 unfolding queueColours cellWith
 whole [] l c h = absurd (omega arith)
 whole (b ∷ t) l c h = record { shape = shape; fits = omega (arith, count) }
@@ -101,7 +90,7 @@ queue-whole f ends order a state g k h e =
     whole (cell state k) (cell-long state k (f .components) (g .long) h) (omega (arith, queue-count-le f state g k h e, a .rows k h .capacities e)) (queue-rest f state g k h e)
 
 -- a state is good exactly if it is long enough and no component is bad
-pub no-bad-component : (f : Netlist) (state : List ℕ) → 64 * f .components ≤ length state → badComponent f state ≡ f .components → Good f state
+pub no-bad-component : (f : Netlist) (state : List ℕ) → cellSize * f .components ≤ length state → badComponent f state ≡ f .components → Good f state
 unfolding badComponent
 no-bad-component f state l e = record {
   long = l;
@@ -127,7 +116,7 @@ past (x ∷ cs) n zero q = absurd (omega arith)
 past (x ∷ cs) n (suc j) q = past cs n j (omega arith)
 
 -- the bytes of a queue with these colours are good
-pub queue-good : (r : List ℕ) (c : ℕ) (cs : List ℕ) → length cs ≤ capacity r → length cs ≤ 63 → Below c cs → (j : ℕ) → j < 64 →
+pub queue-good : (r : List ℕ) (c : ℕ) (cs : List ℕ) → length cs ≤ capacity r → length cs ≤ 63 → Below c cs → (j : ℕ) → j < cellSize →
     goodByte queue r c (getD (cellWith cs) 0 0) j (getD (cellWith cs) j 0) ≡ true
 unfolding goodByte cellWith
 queue-good r c cs h f b zero l = le-leb (length cs) (capacity r) h

@@ -8,10 +8,10 @@ use lib.Dec.{leb·zero}
 use lib.ListN.{length, getD, drop, replicate, length-append, length-drop, length-replicate, getD-replicate}
 use borrow.Author.Tests.{le-ltb}
 use Rattle.component.specs.Kind.{Kind, source, sink, queue, function, fork, join, switch, merge}
-use Rattle.netlist.specs.Netlist.{Netlist, rowOf}
 use Rattle.component.specs.Row.{kind, capacity, filling, fillColour}
+use Rattle.netlist.specs.Netlist.{Netlist, rowOf}
 use Rattle.netlist.specs.Accepted.{AcceptedFabric}
-use Rattle.cells.specs.Cells.{cell, cellWith}
+use Rattle.cells.specs.Cells.{cell, cellWith, cellSize}
 use Rattle.cells.specs.Good.{goodByte, goodCell, Good}
 use Rattle.cells.specs.Start.{startCell, startAt, started}
 use Rattle.cells.proofs.Cells.{cells-long, cells-at, queue-length, cell-queue}
@@ -42,10 +42,10 @@ module _ (f : Netlist) (ends order : List ℕ) (a : AcceptedFabric f ends order)
     zeros-good switch j = refl
     zeros-good merge j = refl
 
-    plain : (d : Kind) (j : ℕ) → goodByte d (rowOf f k) (f .colours) (getD (replicate 64 0) 0 0) j (getD (replicate 64 0) j 0) ≡ true
-    plain d j = rw (zero-at 64 j) (zeros-good d j)
+    plain : (d : Kind) (j : ℕ) → goodByte d (rowOf f k) (f .colours) (getD (replicate cellSize 0) 0 0) j (getD (replicate cellSize 0) j 0) ≡ true
+    plain d j = rw (zero-at cellSize j) (zeros-good d j)
 
-    start-good : (d : Kind) → kind (rowOf f k) ≡ d → (j : ℕ) → j < 64 → goodByte d (rowOf f k) (f .colours) (getD (startCell d (rowOf f k)) 0 0) j (getD (startCell d (rowOf f k)) j 0) ≡ true
+    start-good : (d : Kind) → kind (rowOf f k) ≡ d → (j : ℕ) → j < cellSize → goodByte d (rowOf f k) (f .colours) (getD (startCell d (rowOf f k)) 0 0) j (getD (startCell d (rowOf f k)) j 0) ≡ true
     unfolding startCell
     start-good source e j l = plain source j
     start-good sink e j l = plain sink j
@@ -56,7 +56,7 @@ module _ (f : Netlist) (ends order : List ℕ) (a : AcceptedFabric f ends order)
     start-good switch e j l = plain switch j
     start-good merge e j l = plain merge j
 
-    long-by : (d : Kind) → kind (rowOf f k) ≡ d → length (startCell d (rowOf f k)) ≡ 64
+    long-by : (d : Kind) → kind (rowOf f k) ≡ d → length (startCell d (rowOf f k)) ≡ cellSize
     unfolding startCell
     long-by source e = refl
     long-by sink e = refl
@@ -67,17 +67,17 @@ module _ (f : Netlist) (ends order : List ℕ) (a : AcceptedFabric f ends order)
     long-by switch e = refl
     long-by merge e = refl
 
-    start-long : length (startAt f k) ≡ 64
+    start-long : length (startAt f k) ≡ cellSize
     unfolding startAt
     start-long = long-by (kind (rowOf f k)) refl
 
   pub start-cell : (state : List ℕ) (k : ℕ) → k < f .components → cell (started f state) k ≡ startCell (kind (rowOf f k)) (rowOf f k)
   unfolding started startAt
-  start-cell state k h = cells-at (startAt f) (f .components) start-long (drop (64 * f .components) state) k h
+  start-cell state k h = cells-at (startAt f) (f .components) start-long (drop (cellSize * f .components) state) k h
 
-  pub good-start : (state : List ℕ) → 64 * f .components ≤ length state → Good f (started f state)
+  pub good-start : (state : List ℕ) → cellSize * f .components ≤ length state → Good f (started f state)
   unfolding started goodCell
   good-start state l = record {
     long = rw (length-append, cells-long (startAt f) (f .components) start-long, length-drop) (omega arith);
-    each = λ k h. rw (start-cell state k h) (all-of 64 _ (start-good k h (kind (rowOf f k)) refl));
+    each = λ k h. rw (start-cell state k h) (all-of cellSize _ (start-good k h (kind (rowOf f k)) refl));
   }

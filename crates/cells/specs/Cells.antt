@@ -4,9 +4,12 @@ use mathlib.Core.List.{List, [], _∷_, _++_}
 use Prim.Native.Nat.{ℕ, zero, suc, _-_, _*_, _≤_}
 use lib.ListN.{length, getD, take, drop, replicate}
 
--- 64 bytes a component
+-- 64 bytes a component; the code's constant stands in src/lib.rt
+abbrev pub cellSize : ℕ
+cellSize = 64
+
 abbrev pub cell : List ℕ → ℕ → List ℕ
-cell state k = take 64 (drop (64 * k) state)
+cell state k = take cellSize (drop (cellSize * k) state)
 
 -- a queue's colours, front first
 unfoldable pub queueColours : List ℕ → List ℕ

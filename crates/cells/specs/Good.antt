@@ -9,7 +9,7 @@ use Rattle.digits.specs.Least.{least}
 use Rattle.component.specs.Kind.{Kind, source, sink, queue, function, fork, join, switch, merge}
 use Rattle.component.specs.Row.{kind, masked, capacity}
 use Rattle.netlist.specs.Netlist.{Netlist, rowOf}
-use Rattle.cells.specs.Cells.{cell}
+use Rattle.cells.specs.Cells.{cell, cellSize}
 
 -- 0, or 1 + an emitted colour
 abbrev pub emitted : List ℕ → ℕ → Bool
@@ -41,11 +41,11 @@ all (suc n) p = all n p && p n
 
 -- a component's 64 bytes
 unfoldable pub goodCell : ℕ → List ℕ → List ℕ → Bool
-goodCell c row s = all 64 (λ j. goodByte (kind row) row c (getD s 0 0) j (getD s j 0))
+goodCell c row s = all cellSize (λ j. goodByte (kind row) row c (getD s 0 0) j (getD s j 0))
 
 -- A state is good if all this holds.
 pub record Good (f : Netlist) (state : List ℕ) : Type 0 where
-  pub long : 64 * f .components ≤ length state
+  pub long : cellSize * f .components ≤ length state
   pub each : (k : ℕ) → k < f .components → goodCell (f .colours) (rowOf f k) (cell state k) ≡ true
 
 -- 22 state not good (lowest component); N if it is good

@@ -1,28 +1,23 @@
 -- What each way through `check` comes to. Assumes nothing.
 use mathlib.Core.Path.{_≡_, ap, sym, _∙_}
 use mathlib.Core.List.{List}
-use Prim.Native.Nat.{ℕ, _*_, _/_, _≤_}
-use native.Mathlib.Omega.{arith}
+use Prim.Native.Nat.{ℕ, _*_, _/_}
 use lib.ListN.{length, take}
 use lib.IntN.{ℤ, pos}
-use Rattle.netlist.specs.Netlist.{Netlist, netlistOf}
-use Rattle.netlist.specs.declared.Size.{Size}
 use Rattle.refusals.specs.declared.Refusal.{Refusal}
 use Rattle.refusals.specs.declared.Verdict.{Verdict}
 use Rattle.refusals.specs.declared.Verdict.the-variants.{Refused}
+use Rattle.record.specs.Sizes.{rowSize}
+use Rattle.netlist.specs.Netlist.{Netlist, netlistOf}
+use Rattle.netlist.specs.declared.Size.{Size}
 use Rattle.reader.specs.File.{netlistIn}
 use Rattle.reader.specs.Reading.{reading}
-use Rattle.netlist.specs.Accepted.{AcceptedFabric}
 use Rattle.reader.specs.declared.Reading.the-variants.{Rejected}
 use Rattle.reader.proofs.Opened.{rest-refused, Opened}
-use Rattle.flows.specs.Verdict.{judgedWithin, constantBy, tableBy, bytesBy, ReadFabric}
+use Rattle.flows.specs.Verdict.{judgedWithin, constantBy, tableBy, bytesBy}
 use Rattle.judgement.specs.Judged.{bytesWhere}
 use Rattle.judgement.proofs.Judged.{bytes-there}
 use Rattle.checking.specs.Check.{checkTests, checkVerdict, checkConstant, weightsAfterCheck, bytesAfterCheck}
-
--- what the reader gives is what the verdict asks for
-pub read-fabric : {f : Netlist} {ends order : List ℕ} → AcceptedFabric f ends order → ReadFabric f
-read-fabric a = record { fewColours = a .fewColours; fewChannels = a .fewChannels; fewRows = a .fewRows; long = omega (arith, a .long); rows = a .rows }
 
 module _ (file p : List ℕ) where
   -- ---- the file is refused
@@ -46,7 +41,7 @@ module _ (file p : List ℕ) where
   -- ---- the file is read
   module _ {s : Size} {rows ends order : List ℕ} (o : Opened file s rows ends order) where
     abbrev f : Netlist
-    f = netlistOf s (take (24 * s .components) rows)
+    f = netlistOf s (take (rowSize * s .components) rows)
 
     pub check-judged : (space : ℕ) → judgedWithin f p space ≡ checkVerdict file p space
     unfolding checkVerdict judgedWithin

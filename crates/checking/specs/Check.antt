@@ -4,10 +4,10 @@ use Prim.Native.Nat.{ℕ, _*_, _/_}
 use lib.Dec.{ltb}
 use lib.ListN.{length}
 use lib.IntN.{ℤ}
-use Rattle.netlist.specs.Netlist.{Netlist}
 use Rattle.refusals.specs.Refusals.{Test, test, firstRefusal}
 use Rattle.refusals.specs.declared.Refusal.the-variants.{ResultSpace}
 use Rattle.refusals.specs.declared.Verdict.{Verdict}
+use Rattle.netlist.specs.Netlist.{Netlist}
 use Rattle.reader.specs.File.{netlistIn, fileTests}
 use Rattle.flows.specs.Verdict.{judgeTests, constantBy, tableBy, bytesBy}
 

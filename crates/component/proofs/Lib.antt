@@ -1,5 +1,5 @@
-pub mod Kind
-pub mod Limits
-pub mod Mask
+pub mod ByKind
+pub mod FitsBelow
+pub mod Masks
 pub mod Row
 pub mod Facts

@@ -1,6 +1,6 @@
 -- A row of the open table by the names of its fields, and when a fabric of C colours and M channels may have it.
 use Prim.Native.Nat.{ℕ, _+_, _-_, _*_, _/_, _%_, _^_}
-use mathlib.Core.Bool.{Bool, not, _&&_, _||_}
+use mathlib.Core.Bool.{Bool, true, false, not, _&&_, _||_}
 use mathlib.Core.List.{List}
 use lib.ListN.{getD}
 use lib.Dec.{leb, ltb, eqb}
@@ -24,12 +24,20 @@ firstMap row d = getD row (4 + d) 0
 abbrev pub secondMap : List ℕ → ℕ → ℕ
 secondMap row d = getD row (12 + d) 0
 
+-- the first map or the second
+abbrev pub mapOf : Bool → List ℕ → ℕ → ℕ
+mapOf false row d = firstMap row d
+mapOf true row d = secondMap row d
+
 abbrev pub mask : List ℕ → ℕ
 mask row = getD row 20 0
 
 -- in a mask byte colour 0 is the highest bit
+abbrev pub hasColour : ℕ → ℕ → Bool
+hasColour bits d = eqb (bits / 2 ^ (7 - d) % 2) 1
+
 abbrev pub masked : List ℕ → ℕ → Bool
-masked row d = eqb (mask row / 2 ^ (7 - d) % 2) 1
+masked row d = hasColour (mask row) d
 
 abbrev pub capacity : List ℕ → ℕ
 capacity row = getD row 21 0

@@ -9,25 +9,26 @@ use lib.ListN.{length, take}
 use borrow.Author.Tests.{le-ltb}
 use Rattle.order.specs.Graph.{Circular, hasCircle}
 use Rattle.order.proofs.Circle.{circle-agrees}
-use Rattle.netlist.specs.Netlist.{Netlist}
-use Rattle.wiring.specs.Signals.{dependence}
 use Rattle.refusals.specs.Refusals.{Test, test, firstRefusal}
 use Rattle.refusals.specs.declared.Refusal.the-variants.{Circle}
 use Rattle.refusals.specs.declared.Verdict.{Verdict}
 use Rattle.refusals.specs.declared.Verdict.the-variants.{Accepted, Refused}
 use Rattle.refusals.proofs.Refusals.{andThen, refusal-append}
+use Rattle.wiring.specs.Signals.{dependence}
+use Rattle.netlist.specs.Netlist.{Netlist}
 use Rattle.reader.specs.File.{netlistIn, fileTests}
 use Rattle.cells.specs.Good.{Good}
 use Rattle.cells.specs.Choices.{badChoice}
+use Rattle.cells.specs.Cells.{cellSize}
 use Rattle.cells.proofs.Good.{good-no-bad}
-use Rattle.stepping.specs.Stages.{readyTests}
+use Rattle.verdicts.specs.Stages.{readyTests}
 
 pub ready-passes : (f : Netlist) (s c : List ℕ) (uneven : Bool) (rest : List Test) → Good f s → uneven ≡ false → badChoice f c ≡ length c
     → firstRefusal (readyTests f s c uneven ++ rest) ≡ firstRefusal rest
 ready-passes f s c uneven rest g even allowed =
     let n : f .components ≤ f .components = omega arith in
     let m : length c ≤ length c = omega arith in
-    rw (le-ltb (length s) (64 * f .components) (g .long), good-no-bad f s g, le-ltb (f .components) (f .components) n, even, allowed, le-ltb (length c) (length c) m)
+    rw (le-ltb (length s) (cellSize * f .components) (g .long), good-no-bad f s g, le-ltb (f .components) (f .components) n, even, allowed, le-ltb (length c) (length c) m)
 
 -- where none of 1-7 is met, 8 decides
 circle-last : (file : List ℕ) → firstRefusal (take 7 (fileTests file)) ≡ Accepted

@@ -10,41 +10,42 @@ use lib.IntN.{ℤ, pos, _*ℤ_, zero-*ℤ}
 use borrow.Author.Tests.{le-ltb, eq-eqb}
 use Rattle.integers.specs.Sum.{sumTo}
 use Rattle.integers.proofs.Sum.{sum-cong}
-use Rattle.component.specs.Kind.{isQueue}
-use Rattle.component.proofs.Kind.{is-queue}
-use Rattle.component.specs.Row.{kind}
-use Rattle.netlist.specs.Netlist.{Netlist, rowOf}
 use Rattle.refusals.specs.Refusals.{Test, test, firstRefusal}
 use Rattle.refusals.specs.declared.Refusal.the-variants.{StateShort, BadState, ChoiceCount, BadChoice, ResultSpace}
 use Rattle.refusals.specs.declared.Verdict.{Verdict}
 use Rattle.refusals.specs.declared.Verdict.the-variants.{Accepted, Refused}
 use Rattle.refusals.proofs.Refusals.{andThen, refusal-append, then-accepted}
-use Rattle.reader.specs.File.{netlistIn, fileTests}
+use Rattle.component.specs.Kind.{isQueue}
+use Rattle.component.specs.Row.{kind}
+use Rattle.component.proofs.ByKind.{is-queue}
+use Rattle.netlist.specs.Netlist.{Netlist, rowOf}
 use Rattle.netlist.specs.Accepted.{AcceptedFabric}
+use Rattle.reader.specs.File.{netlistIn, fileTests}
 use Rattle.reader.proofs.Opened.{after-file, rest-of, facts}
-use Rattle.signals.specs.Signals.{moved}
-use Rattle.signals.proofs.Signals.{value-rule, value-only}
+use Rattle.roundtrip.proofs.RoundTrip.{roundTripFile, roundTripTable, writtenAccepted, oneFile, oneTable}
 use Rattle.cells.specs.Good.{Good}
 use Rattle.cells.specs.Choices.{Allowed, badChoice}
 use Rattle.cells.specs.Start.{started}
-use Rattle.state.specs.Step.{next}
+use Rattle.cells.specs.Counts.{counts}
+use Rattle.cells.specs.Cells.{cellSize}
 use Rattle.cells.proofs.Good.{good-no-bad}
 use Rattle.cells.proofs.Choices.{allowed-no-bad, steps-no-bad}
+use Rattle.cells.proofs.Counts.{start-counts}
+use Rattle.signals.specs.Signals.{moved}
+use Rattle.signals.proofs.Signals.{value-rule, value-only}
+use Rattle.state.specs.Step.{next}
 use Rattle.flows.specs.Flows.{Cancels, weight, entry, acceptedSum, startCount, constant}
 use Rattle.flows.specs.Verdict.{judgeTests, judged, constantBy, tableBy, bytesBy}
 use Rattle.flows.proofs.Weights.{weight-other}
 use Rattle.flows.proofs.Exactly.{accepted-cancels, accepted-weighty, accepted-exactly}
 use Rattle.flows.proofs.Steps.{step-constant}
-use Rattle.cells.specs.Counts.{counts}
 use Rattle.balance.specs.Balance.{transfer}
-use Rattle.cells.proofs.Counts.{start-counts}
 use Rattle.balance.proofs.Holds.{holds}
-use Rattle.roundtrip.proofs.RoundTrip.{roundTripFile, roundTripTable, writtenAccepted, oneFile, oneTable}
-use Rattle.stepping.specs.Calls.{shortState, startVerdict, stateAfterStart, stepVerdict, runVerdict}
-use Rattle.stepping.specs.Stages.{readyTests}
-use Rattle.stepping.proofs.Starting.{started-file}
+use Rattle.verdicts.specs.Tests.{shortState}
+use Rattle.verdicts.specs.Stages.{readyTests}
+use Rattle.stepping.specs.Calls.{startVerdict, stateAfterStart, stepVerdict, runVerdict}
+use Rattle.stepping.proofs.Calls.{started-file}
 use Rattle.checking.specs.Check.{checkVerdict, checkConstant, weightsAfterCheck, bytesAfterCheck}
-use Rattle.checking.proofs.Checking.{read-fabric}
 use Rattle.calls.specs.Calls.{Call, start, step, run, stateAfterAll, verdictOn}
 use Rattle.calls.proofs.Calls.{calls-keep}
 use Rattle.demands.specs.Demands.{ConstantSums, AcceptedExactly, GoodAlways, FilesAndTables, StepSignals, CircleExactly, StepAccepted, RunAccepted, entryOfBytes, entryOf, sumRead, WeightsRead, ConstantSumsRead, ConstantSumsInTable}
@@ -67,7 +68,7 @@ start-sum f ends order a p s =
 sum-keeps : (f : Netlist) (ends order : List ℕ) → AcceptedFabric f ends order → (p : List ℕ) → Cancels f p → (s ch : List ℕ) → Good f s → Allowed f ch
     → acceptedSum f p (counts s) ≡ constant f p → acceptedSum f p (counts (next f s ch)) ≡ constant f p
 sum-keeps f ends order a p c s ch g w q =
-    step-constant f (read-fabric a) p (transfer (moved f s ch)) (counts s) (counts (next f s ch)) (holds f ends order s ch (record { accepted = a; good = g; allowed = w })) c ∙ q
+    step-constant f (record { ends = ends; order = order; facts = a }) p (transfer (moved f s ch)) (counts s) (counts (next f s ch)) (holds f ends order s ch (record { accepted = a; good = g; allowed = w })) c ∙ q
 
 checked : (file p : List ℕ) (space : ℕ) → checkVerdict file p space ≡ Accepted → judged (netlistIn file) p ≡ Accepted
 unfolding checkVerdict judged
@@ -120,12 +121,12 @@ good-passes : (f : Netlist) (s c : List ℕ) (uneven : Bool) (rest : List Test) 
     → firstRefusal (readyTests f s c uneven ++ rest) ≡ cond uneven (Refused ChoiceCount) (cond (ltb (badChoice f c) (length c)) (Refused (BadChoice (badChoice f c))) (firstRefusal rest))
 good-passes f s c uneven rest g =
     let n : f .components ≤ f .components = omega arith in
-    rw (le-ltb (length s) (64 * f .components) (g .long), good-no-bad f s g, le-ltb (f .components) (f .components) n)
+    rw (le-ltb (length s) (cellSize * f .components) (g .long), good-no-bad f s g, le-ltb (f .components) (f .components) n)
 
 verdict-stateless : (file : List ℕ) → firstRefusal (fileTests file) ≡ Accepted → (call : Call) (s : List ℕ) → Good (netlistIn file) s → Stateless (verdictOn file call s)
 unfolding startVerdict stepVerdict runVerdict
 verdict-stateless file ok start s g =
-    subst Stateless (sym (rest-of file ok (shortState (netlistIn file) (length s) ∷ []) ∙ rw (le-ltb (length s) (64 * netlistIn file .components) (g .long)))) (others false false false 0)
+    subst Stateless (sym (rest-of file ok (shortState (netlistIn file) (length s) ∷ []) ∙ rw (le-ltb (length s) (cellSize * netlistIn file .components) (g .long)))) (others false false false 0)
 verdict-stateless file ok (step c space) s g =
     let f : Netlist = netlistIn file in
     let uneven : Bool = not (eqb (length c) (f .components)) in

@@ -13,22 +13,23 @@ use mir.Syntax.{w64}
 use mir.Val.{SFits, ofZ}
 use mir.ValLaws.{ofZ-fits}
 use borrow.Author.Tests.{lt-ltb, le-ltb, ltb-false}
+use Rattle.digits.specs.UpTo.{upTo}
+use Rattle.digits.proofs.UpTo.{filled-at}
 use Rattle.integers.specs.Sum.{sumTo}
 use Rattle.integers.proofs.Sum.{sum-cong}
 use Rattle.integers.proofs.Near.{natAbs-sum, near-fits, if-near}
-use Rattle.digits.specs.UpTo.{upTo}
-use Rattle.digits.proofs.UpTo.{filled-at}
+use Rattle.refusals.specs.declared.Verdict.the-variants.{Accepted}
 use Rattle.component.specs.Kind.{isQueue}
 use Rattle.component.specs.Row.{kind}
+use Rattle.component.specs.Limits.{mostColours}
 use Rattle.netlist.specs.Netlist.{Netlist, rowOf}
-use Rattle.refusals.specs.declared.Verdict.the-variants.{Accepted}
-use Rattle.flows.specs.Terms.{signed, terms, component, index, multiplier}
+use Rattle.cells.specs.Counts.{counts}
+use Rattle.flows.specs.Terms.{signed, terms, componentOf, index, multiplier}
 use Rattle.flows.specs.Flows.{weight, entry, acceptedSum}
 use Rattle.flows.specs.Verdict.{judged, byteOf, weightByte}
 use Rattle.flows.proofs.Exactly.{accepted-formed}
 use Rattle.flows.proofs.Terms.{multiplier-near}
 use Rattle.flows.proofs.Weights.{entry-weight}
-use Rattle.cells.specs.Counts.{counts}
 use Rattle.demands.specs.Demands.{lowestFirst, entryOfBytes, entryOf, sumRead}
 
 -- ---- a number from its bytes
@@ -81,8 +82,8 @@ module _ (f : Netlist) (p : List ℕ) (accepted : judged f p ≡ Accepted) where
   weight-near : (q d : ℕ) → natAbs (weight f p q d) ≤ 2 ^ 40
   unfolding weight
   weight-near q d =
-      let near = natAbs-sum (terms p) (2 ^ 22) (λ k. cond (eqb (component p k) q && eqb (index p k) d) (multiplier p k) (pos 0))
-      (λ k l. if-near (eqb (component p k) q && eqb (index p k) d) (multiplier p k) (2 ^ 22) (multiplier-near p k)) in
+      let near = natAbs-sum (terms p) (2 ^ 22) (λ k. cond (eqb (componentOf p k) q && eqb (index p k) d) (multiplier p k) (pos 0))
+      (λ k l. if-near (eqb (componentOf p k) q && eqb (index p k) d) (multiplier p k) (2 ^ 22) (multiplier-near p k)) in
       if-near (isQueue (kind (rowOf f q))) _ (2 ^ 40) (omega (arith, near, few-terms f p accepted))
 
   entry-fits : (u : ℕ) → SFits w64 (entry f p u)
@@ -106,7 +107,7 @@ table-back f p rest u l = filled-at (entry f p) rest (pos 0) (8 * f .components)
 
 -- ---- the sum that is read
 -- of entries that are the weights, it is the accepted sum
-pub sum-is : (f : Netlist) → f .colours ≤ 8 → (p : List ℕ) (entries : ℕ → ℤ) → ((u : ℕ) → u < 8 * f .components → entries u ≡ entry f p u) → (state : List ℕ)
+pub sum-is : (f : Netlist) → f .colours ≤ mostColours → (p : List ℕ) (entries : ℕ → ℤ) → ((u : ℕ) → u < 8 * f .components → entries u ≡ entry f p u) → (state : List ℕ)
     → sumRead f entries state ≡ acceptedSum f p (counts state)
 unfolding sumRead acceptedSum
 sum-is f few p entries is state =

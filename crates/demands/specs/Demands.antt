@@ -8,20 +8,20 @@ use lib.ListN.{length, getD, take}
 use lib.IntN.{ℤ, pos, _*ℤ_}
 use Rattle.integers.specs.Sum.{sumTo}
 use Rattle.order.specs.Graph.{Circular}
-use Rattle.netlist.specs.Netlist.{Netlist}
-use Rattle.wiring.specs.Signals.{dependence}
 use Rattle.refusals.specs.Refusals.{firstRefusal}
 use Rattle.refusals.specs.declared.Refusal.the-variants.{Circle, StateShort, BadState}
 use Rattle.refusals.specs.declared.Verdict.the-variants.{Accepted, Refused}
+use Rattle.wiring.specs.Signals.{dependence}
+use Rattle.netlist.specs.Netlist.{Netlist}
 use Rattle.reader.specs.File.{netlistIn, fileTests}
 use Rattle.roundtrip.specs.RoundTrip.{RoundTripFile, RoundTripTable, WrittenAccepted, OneFile, OneTable}
-use Rattle.signals.specs.Signals.{ruleOf, value}
 use Rattle.cells.specs.Good.{Good}
 use Rattle.cells.specs.Choices.{Allowed, stepChoices}
+use Rattle.cells.specs.Counts.{counts}
+use Rattle.signals.specs.Signals.{ruleOf, value}
 use Rattle.flows.specs.Terms.{signed}
 use Rattle.flows.specs.Flows.{Cancels, entry, acceptedSum}
 use Rattle.flows.specs.Verdict.{WellFormed, SomeWeight}
-use Rattle.cells.specs.Counts.{counts}
 use Rattle.stepping.specs.Calls.{startVerdict, stateAfterStart, stepVerdict, runVerdict}
 use Rattle.checking.specs.Check.{checkVerdict, checkConstant, weightsAfterCheck, bytesAfterCheck}
 use Rattle.calls.specs.Calls.{Call, stateAfterAll, verdictOn}

@@ -1,10 +1,23 @@
 // Numbers as packed digits, most significant first, byte sums, and copies.
 ghost use mathlib.Core.Path.{_≡_};
-ghost use Prim.Native.Nat.{_+_, _≤_, _%_};
+ghost use Prim.Native.Nat.{_+_, _≤_, _<_, _%_};
 ghost use lib.ListN.{length};
 ghost use lib.Seq.{paste};
 ghost use Rattle.digits.specs.Packed.{joined, bytes};
 ghost use Rattle.digits.specs.Sum.{sum, negated};
+
+// A byte as a number of another width.
+pub fn wide(x: u8) -> usize
+    ensures { λ r. ⌜ (r ≡ x) × (r < 256) ⌝ }
+{
+    x as usize
+}
+
+pub fn widened(x: u8) -> u16
+    ensures { λ r. ⌜ r ≡ x ⌝ }
+{
+    x as u16
+}
 
 // The number that n bytes make from at on, the first the highest.
 pub fn word(s: &[u8], at: usize, n: usize) -> u64

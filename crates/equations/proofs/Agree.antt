@@ -1,30 +1,31 @@
 -- The code's account of an equation, `equationNamed`, is the definition's, `hasEquation` and `factor`. Assumes nothing.
-use mathlib.Core.Path.{_≡_, refl, sym, ap, _∙_, subst}
+use mathlib.Core.Path.{_≡_, refl, sym, ap, _∙_}
 use mathlib.Core.Bool.{Bool, true, false, cond, not, _&&_, _||_, true≢false}
 use mathlib.Core.List.{List}
 use Prim.Native.Nat.{ℕ, _+_, _*_, _-_, _/_, _%_, _≤_, _<_}
-use native.Mathlib.Nat.{add-zero}
 use native.Mathlib.Omega.{arith}
 use lib.Dec.{ltb, eqb}
 use lib.IntN.{ℤ, pos, _-ℤ_, +ℤ-idr}
-use lib.ListN.{length, getD}
+use lib.ListN.{length}
 use borrow.Author.Tests.{ltb-true, ltb-false, lt-ltb, le-ltb, eqb-true, eqb-false, ne-eqb}
+use Rattle.digits.proofs.Bools.{and-true}
 use Rattle.integers.specs.Sum.{sumTo, same}
 use Rattle.integers.proofs.Sum.{sum-only, sum-zero, same-yes, same-no, cond-zero}
-use Rattle.digits.proofs.Bools.{and-true}
-use Rattle.component.specs.Kind.{Kind, kindOf, source, sink, queue, function, fork, join, switch, merge, A, B, C}
-use Rattle.component.specs.Row.{kind, port, firstMap, secondMap, mask, masked}
-use Rattle.netlist.specs.Netlist.{Netlist, rowOf}
+use Rattle.record.specs.Table.{row}
+use Rattle.record.specs.Sizes.{rowSize}
+use Rattle.component.specs.Kind.{Kind, source, sink, queue, function, fork, join, switch, merge, A, B, C}
+use Rattle.component.specs.Row.{kind, port, mapOf, firstMap, secondMap, mask, masked}
 use Rattle.component.specs.Facts.{RowFacts}
-use Rattle.record.proofs.Table.{row-at}
+use Rattle.component.specs.Limits.{mostChannels, mostColours}
+use Rattle.netlist.specs.Netlist.{Netlist, rowOf}
 use Rattle.equations.specs.Equations.{Side, flow, mappedTo, allOf, none, sideIf, less, side, hasIndex, hasEquation, factor}
-use Rattle.equations.specs.Numbers.{pick, missing, bitOf, lowEquation, highEquation, equationOf, equationAt, equationNamed, nameVerdict, equationVerdict, mappedFactor, allFactor, factorOf, numbered, InTable, sourceFlows, queueFlows, mappedFlows, switchFlows, mergeFlows}
+use Rattle.equations.specs.Numbers.{pick, missing, lowEquation, highEquation, equationOf, equationAt, equationNamed, nameVerdict, equationVerdict, mappedFactor, allFactor, factorOf, numbered, InTable, mappedFlows, switchFlows}
 use Rattle.equations.specs.declared.Equation.{Equation}
-use Rattle.equations.specs.declared.Equation.the-variants.{Missing, One, Two, Three, Mapped, All}
+use Rattle.equations.specs.declared.Equation.the-variants.{One, Two, Three, Mapped, All}
 
 -- ---- flows by number
 -- L(y,e)
-module _ (c : ℕ) (h : c ≤ 8) (y : ℕ) (v : ℕ) where
+module _ (c : ℕ) (h : c ≤ mostColours) (y : ℕ) (v : ℕ) where
   pub flow-number : (e : ℕ) → e < c → same (8 * y + e) v ≡ numbered c (flow y e) v
   unfolding same numbered
   flow-number e l = go (ltb (v % 8) c) refl (eqb (8 * y + e) v) refl (eqb (v / 8) y) refl (eqb (v % 8) e) refl
@@ -61,12 +62,9 @@ module _ (c : ℕ) (h : c ≤ 8) (y : ℕ) (v : ℕ) where
   all-number = flows-number (λ d. true) ∙ ap (λ (b : Bool). cond (ltb (v % 8) c) (cond b (pos 1) (pos 0)) (pos 0)) (and-true (eqb (v / 8) y))
 
   -- those that a map takes to e
-  mapped-number : (t : List ℕ) (at e : ℕ) (map : ℕ → ℕ) → ((d : ℕ) → d < 8 → getD t (at + d) 0 ≡ map d) → mappedFactor t c (8 * y) at e v ≡ numbered c (mappedTo y map e) v
+  mapped-number : (t : List ℕ) (q : ℕ) (second : Bool) (e : ℕ) → mappedFactor t c (8 * y) q second e v ≡ numbered c (mappedTo y (mapOf second (row t q)) e) v
   unfolding mappedFactor numbered
-  mapped-number t at e map same-map =
-      let l : v % 8 < 8 = omega arith in
-      flows-number (λ d. eqb (getD t (at + d) 0) e)
-      ∙ ap (λ (m : ℕ). cond (ltb (v % 8) c) (cond (eqb (v / 8) y && eqb m e) (pos 1) (pos 0)) (pos 0)) (same-map (v % 8) l)
+  mapped-number t q second e = flows-number (λ d. eqb (mapOf second (row t q) d) e)
 
 -- a difference, by number
 less-number : (c : ℕ) (a b : Side) (v : ℕ) → numbered c (less a b) v ≡ numbered c a v -ℤ numbered c b v
@@ -86,7 +84,7 @@ pub record Agrees (t : List ℕ) (c k : ℕ) (e : Equation) (b : Bool) (s : Side
   pub verdict : equationVerdict e ≡ nameVerdict b k
   pub factors : (v : ℕ) → factorOf t c e v ≡ numbered c (sideIf b s) v
 
-module _ (t : List ℕ) (c : ℕ) (h : c ≤ 8) (k : ℕ) where
+module _ (t : List ℕ) (c : ℕ) (h : c ≤ mostColours) (k : ℕ) where
   none-agrees : (b : Bool) (s : Side) → b ≡ false → Agrees t c k (missing k) b s
   unfolding factorOf
   none-agrees true s e = absurd (true≢false e)
@@ -122,13 +120,12 @@ module _ (t : List ℕ) (c : ℕ) (h : c ≤ 8) (k : ℕ) where
         ∙ sym (less-number c (less (flow x d) (flow y d)) (flow z d) v);
   }
 
-  mapped-agrees : (x y at e : ℕ) (map : ℕ → ℕ) → ((d : ℕ) → d < 8 → getD t (at + d) 0 ≡ map d) → e < c
-      → Agrees t c k (Mapped (8 * x + e) (8 * y) at e) true (less (flow x e) (mappedTo y map e))
+  mapped-agrees : (x y q : ℕ) (second : Bool) (e : ℕ) → e < c → Agrees t c k (Mapped (8 * x + e) (8 * y) q second e) true (less (flow x e) (mappedTo y (mapOf second (row t q)) e))
   unfolding factorOf
-  mapped-agrees x y at e map m l = record {
+  mapped-agrees x y q second e l = record {
     verdict = refl;
-    factors = λ v. ap (λ (z : ℤ). z -ℤ mappedFactor t c (8 * y) at e v) (flow-number c h x v e l) ∙ ap (λ (z : ℤ). numbered c (flow x e) v -ℤ z) (mapped-number c h y v t at e map m)
-        ∙ sym (less-number c (flow x e) (mappedTo y map e) v);
+    factors = λ v. ap (λ (z : ℤ). z -ℤ mappedFactor t c (8 * y) q second e v) (flow-number c h x v e l) ∙ ap (λ (z : ℤ). numbered c (flow x e) v -ℤ z) (mapped-number c h y v t q second e)
+        ∙ sym (less-number c (flow x e) (mappedTo y (mapOf second (row t q)) e) v);
   }
 
   all-agrees : (x y : ℕ) → Agrees t c k (All (8 * x) (8 * y)) true (less (allOf x) (allOf y))
@@ -147,13 +144,10 @@ module _ (t : List ℕ) (c : ℕ) (h : c ≤ 8) (k : ℕ) where
     factors = λ v. flow-number c h x v d l ∙ sym (less-number c (flow x d) none v ∙ ap (λ (z : ℤ). numbered c (flow x d) v -ℤ z) (none-number c v) ∙ +ℤ-idr (numbered c (flow x d) v));
   }
 
-  -- every kind, for a row r that lies at `at` in the table
-  module _ (r : List ℕ) (at : ℕ) (bytes : (j : ℕ) → j < 24 → getD t (at + j) 0 ≡ getD r j 0) (i : ℕ) where
-    first : (d : ℕ) → d < 8 → getD t (at + 4 + d) 0 ≡ firstMap r d
-    first d l = let e : at + 4 + d ≡ at + (4 + d) = omega arith in ap (λ (j : ℕ). getD t j 0) e ∙ bytes (4 + d) (omega arith)
-
-    second : (d : ℕ) → d < 8 → getD t (at + 12 + d) 0 ≡ secondMap r d
-    second d l = let e : at + 12 + d ≡ at + (12 + d) = omega arith in ap (λ (j : ℕ). getD t j 0) e ∙ bytes (12 + d) (omega arith)
+  -- every kind, for a component q
+  module _ (q i : ℕ) where
+    abbrev r : List ℕ
+    r = row t q
 
     -- an index below 8
     module _ (low : ltb i 8 ≡ true) where
@@ -169,14 +163,14 @@ module _ (t : List ℕ) (c : ℕ) (h : c ≤ 8) (k : ℕ) where
       low-half true b d u e m = guard b m
       low-half false b d u e m = absurd (true≢false (sym e))
 
-      low-kind : (n : Kind) → Agrees t c k (lowEquation n (port r A) (port r B) (port r C) (mask r) at c i k) (hasIndex n r c i) (side n r i)
+      low-kind : (n : Kind) → Agrees t c k (lowEquation n (port r A) (port r B) (port r C) (mask r) q c i k) (hasIndex n r c i) (side n r i)
       unfolding lowEquation hasIndex side
-      low-kind source = guard-not (ltb i c) (bitOf (mask r) i) (λ b. one (port r A) i (ltb-true i c b))
+      low-kind source = guard-not (ltb i c) (masked r i) (λ b. one (port r A) i (ltb-true i c b))
       low-kind sink = none-agrees false none refl
       low-kind queue = guard (ltb i c) (λ b. two (port r B) (port r A) i (ltb-true i c b))
-      low-kind function = guard (ltb i c) (λ b. mapped-agrees (port r B) (port r A) (at + 4) i (firstMap r) first (ltb-true i c b))
-      low-kind fork = low-half (ltb i 8) (ltb i c) (ltb (i - 8) c) (less (flow (port r C) (i - 8)) (mappedTo (port r A) (secondMap r) (i - 8))) low (λ b. mapped-agrees (port r B) (port r A) (at + 4) i (firstMap r) first (ltb-true i c b))
-      low-kind join = low-join (ltb i c) (eqb i 8) (less (allOf (port r A)) (allOf (port r B))) not-8 (λ b. mapped-agrees (port r C) (port r A) (at + 4) i (firstMap r) first (ltb-true i c b))
+      low-kind function = guard (ltb i c) (λ b. mapped-agrees (port r B) (port r A) q false i (ltb-true i c b))
+      low-kind fork = low-half (ltb i 8) (ltb i c) (ltb (i - 8) c) (less (flow (port r C) (i - 8)) (mappedTo (port r A) (secondMap r) (i - 8))) low (λ b. mapped-agrees (port r B) (port r A) q false i (ltb-true i c b))
+      low-kind join = low-join (ltb i c) (eqb i 8) (less (allOf (port r A)) (allOf (port r B))) not-8 (λ b. mapped-agrees (port r C) (port r A) q false i (ltb-true i c b))
       low-kind switch = low-half (ltb i 8) (ltb i c) (ltb (i - 8) c) (less (flow (port r C) (i - 8)) (sideIf (not (masked r (i - 8))) (flow (port r A) (i - 8)))) low (λ b. sent (masked r i) (port r B) (port r A) i (ltb-true i c b))
       low-kind merge = guard (ltb i c) (λ b. three (port r C) (port r A) (port r B) i (ltb-true i c b))
 
@@ -198,13 +192,13 @@ module _ (t : List ℕ) (c : ℕ) (h : c ≤ 8) (k : ℕ) where
       high-join false true s e m = m
       high-join false false s f m = none-agrees false s refl
 
-      high-kind : (n : Kind) → Agrees t c k (highEquation n (port r A) (port r B) (port r C) (mask r) at c i k) (hasIndex n r c i) (side n r i)
+      high-kind : (n : Kind) → Agrees t c k (highEquation n (port r A) (port r B) (port r C) (mask r) q c i k) (hasIndex n r c i) (side n r i)
       unfolding highEquation hasIndex side
       high-kind source = past-and (ltb i c) (not (masked r i)) (flow (port r A) i) past
       high-kind sink = none-agrees false none refl
       high-kind queue = none-agrees (ltb i c) (side queue r i) past
       high-kind function = none-agrees (ltb i c) (side function r i) past
-      high-kind fork = high-half (ltb i 8) (ltb i c) (ltb (i - 8) c) (less (flow (port r B) i) (mappedTo (port r A) (firstMap r) i)) high (λ b. mapped-agrees (port r C) (port r A) (at + 12) (i - 8) (secondMap r) second (ltb-true (i - 8) c b))
+      high-kind fork = high-half (ltb i 8) (ltb i c) (ltb (i - 8) c) (less (flow (port r B) i) (mappedTo (port r A) (firstMap r) i)) high (λ b. mapped-agrees (port r C) (port r A) q true (i - 8) (ltb-true (i - 8) c b))
       high-kind join = high-join (ltb i c) (eqb i 8) (less (flow (port r C) i) (mappedTo (port r A) (firstMap r) i)) past (all-agrees (port r A) (port r B))
       high-kind switch = high-half (ltb i 8) (ltb i c) (ltb (i - 8) c) (less (flow (port r B) i) (sideIf (masked r i) (flow (port r A) i))) high (λ b. sent (not (masked r (i - 8))) (port r C) (port r A) (i - 8) (ltb-true (i - 8) c b))
       high-kind merge = none-agrees (ltb i c) (side merge r i) past
@@ -230,23 +224,17 @@ module _ (t : List ℕ) (c : ℕ) (h : c ≤ 8) (k : ℕ) where
         out-kind merge = past
 
     by-index : (n : Kind) (a b : Bool) → ltb i 8 ≡ a → ltb i 16 ≡ b
-        → Agrees t c k (pick a (lowEquation n (port r A) (port r B) (port r C) (mask r) at c i k) (pick b (highEquation n (port r A) (port r B) (port r C) (mask r) at c i k) (missing k))) (hasIndex n r c i) (side n r i)
+        → Agrees t c k (pick a (lowEquation n (port r A) (port r B) (port r C) (mask r) q c i k) (pick b (highEquation n (port r A) (port r B) (port r C) (mask r) q c i k) (missing k))) (hasIndex n r c i) (side n r i)
     by-index n true b ea eb = low-kind ea n
     by-index n false true ea eb = high-kind ea n
     by-index n false false ea eb = none-agrees (hasIndex n r c i) (side n r i) (out-kind ea eb n)
 
-    equation-row : equationAt t at c i k ≡ equationOf (kind r) (port r A) (port r B) (port r C) (mask r) at c i k
-    unfolding equationAt
-    equation-row =
-        ap (λ (n : ℕ). equationOf (kindOf n) (getD t (at + 1) 0) (getD t (at + 2) 0) (getD t (at + 3) 0) (getD t (at + 20) 0) at c i k) (ap (λ (j : ℕ). getD t j 0) (sym (add-zero at)) ∙ bytes 0 (omega arith))
-        ∙ rw (bytes 1 (omega arith), bytes 2 (omega arith), bytes 3 (omega arith), bytes 20 (omega arith))
+    equation-agrees : Agrees t c k (equationAt t q c i k) (hasIndex (kind r) r c i) (side (kind r) r i)
+    unfolding equationAt equationOf
+    equation-agrees = by-index (kind r) (ltb i 8) (ltb i 16) refl refl
 
-    equation-agrees : Agrees t c k (equationAt t at c i k) (hasIndex (kind r) r c i) (side (kind r) r i)
-    unfolding equationOf
-    equation-agrees = subst (λ (e : Equation). Agrees t c k e (hasIndex (kind r) r c i) (side (kind r) r i)) (sym equation-row) (by-index (kind r) (ltb i 8) (ltb i 16) refl refl)
-
-    -- ports below 255: every flow is in the table of sums
-    module _ (a : port r A < 255) (b : port r B < 255) (d : port r C < 255) (room : at + 24 ≤ length t) where
+    -- every flow is in the table of sums
+    module _ (a : port r A < mostChannels) (b : port r B < mostChannels) (d : port r C < mostChannels) (room : rowSize * q + rowSize ≤ length t) where
       none-within : InTable t (missing k)
       none-within = record { within = tt }
 
@@ -258,51 +246,50 @@ module _ (t : List ℕ) (c : ℕ) (h : c ≤ 8) (k : ℕ) where
       low-within : (n j : ℕ) (e : Equation) → (j < n → InTable t e) → InTable t (pick (ltb j n) e (missing k))
       low-within n j e m = pick-within (ltb j n) (λ l. m (ltb-true j n l)) (λ l. none-within)
 
-      mapped-within : (x j map : ℕ) → x < 255 → map + 8 ≤ at + 24 → j < 8 → InTable t (mappedFlows x (port r A) map c j k)
-      mapped-within x j map l e m = low-within c j (Mapped (8 * x + j) (8 * port r A) map j) (λ n. record { within = (omega arith, omega arith, omega arith) })
+      mapped-within : (x j : ℕ) (second : Bool) → x < mostChannels → j < 8 → InTable t (mappedFlows x (port r A) second q c j k)
+      mapped-within x j second l m = low-within c j (Mapped (8 * x + j) (8 * port r A) q second j) (λ n. record { within = (omega arith, omega arith, room) })
 
-      sent-within : (x j : ℕ) (goes : Bool) → x < 255 → j < 8 → InTable t (switchFlows x (port r A) goes c j k)
+      sent-within : (x j : ℕ) (goes : Bool) → x < mostChannels → j < 8 → InTable t (switchFlows x (port r A) goes c j k)
       sent-within x j goes l m = low-within c j (pick goes (Two (8 * x + j) (8 * port r A + j)) (One (8 * x + j)))
           (λ n. pick-within goes (λ g. record { within = (omega arith, omega arith) }) (λ g. record { within = omega arith }))
 
-      within-low : (n : Kind) → i < 8 → InTable t (lowEquation n (port r A) (port r B) (port r C) (mask r) at c i k)
+      within-low : (n : Kind) → i < 8 → InTable t (lowEquation n (port r A) (port r B) (port r C) (mask r) q c i k)
       unfolding lowEquation
       within-low source l =
-          low-within c i (pick (bitOf (mask r) i) (missing k) (One (8 * port r A + i))) (λ m. pick-within (bitOf (mask r) i) (λ n. none-within) (λ n. record { within = omega arith }))
+          low-within c i (pick (masked r i) (missing k) (One (8 * port r A + i))) (λ m. pick-within (masked r i) (λ n. none-within) (λ n. record { within = omega arith }))
       within-low sink l = none-within
       within-low queue l = low-within c i (Two (8 * port r B + i) (8 * port r A + i)) (λ m. record { within = (omega arith, omega arith) })
-      within-low function l = mapped-within (port r B) i (at + 4) b (omega arith) l
-      within-low fork l = mapped-within (port r B) i (at + 4) b (omega arith) l
-      within-low join l = mapped-within (port r C) i (at + 4) d (omega arith) l
-      within-low switch l = sent-within (port r B) i (bitOf (mask r) i) b l
+      within-low function l = mapped-within (port r B) i false b l
+      within-low fork l = mapped-within (port r B) i false b l
+      within-low join l = mapped-within (port r C) i false d l
+      within-low switch l = sent-within (port r B) i (masked r i) b l
       within-low merge l = low-within c i (Three (8 * port r C + i) (8 * port r A + i) (8 * port r B + i)) (λ m. record { within = (omega arith, omega arith, omega arith) })
 
-      within-high : (n : Kind) → i < 16 → InTable t (highEquation n (port r A) (port r B) (port r C) (mask r) at c i k)
+      within-high : (n : Kind) → i < 16 → InTable t (highEquation n (port r A) (port r B) (port r C) (mask r) q c i k)
       unfolding highEquation
       within-high source l = none-within
       within-high sink l = none-within
       within-high queue l = none-within
       within-high function l = none-within
-      within-high fork l = mapped-within (port r C) (i - 8) (at + 12) d (omega arith) (omega arith)
+      within-high fork l = mapped-within (port r C) (i - 8) true d (omega arith)
       within-high join l = pick-within (eqb i 8) (λ n. record { within = (omega arith, omega arith) }) (λ n. none-within)
-      within-high switch l = sent-within (port r C) (i - 8) (not (bitOf (mask r) (i - 8))) d (omega arith)
+      within-high switch l = sent-within (port r C) (i - 8) (not (masked r (i - 8))) d (omega arith)
       within-high merge l = none-within
 
-      equation-within : InTable t (equationAt t at c i k)
-      unfolding equationOf
+      equation-within : InTable t (equationAt t q c i k)
+      unfolding equationAt equationOf
       equation-within =
-          subst (InTable t) (sym equation-row)
-          (pick-within (ltb i 8) (λ l. within-low (kind r) (ltb-true i 8 l)) (λ l. low-within 16 i (highEquation (kind r) (port r A) (port r B) (port r C) (mask r) at c i k) (within-high (kind r))))
+          (pick-within (ltb i 8) (λ l. within-low (kind r) (ltb-true i 8 l)) (λ l. low-within 16 i (highEquation (kind r) (port r A) (port r B) (port r C) (mask r) q c i k) (within-high (kind r))))
 
 -- ---- the equation that a term names
-module _ (f : Netlist) (few : f .colours ≤ 8) (q i k : ℕ) where
+module _ (f : Netlist) (few : f .colours ≤ mostColours) (q i k : ℕ) where
   -- whether there is one, and its flows
   pub named-agrees : Agrees (f .table) (f .colours) k (equationNamed f q i k) (hasEquation f q i) (side (kind (rowOf f q)) (rowOf f q) i)
   unfolding equationNamed hasEquation
   named-agrees = go (ltb q (f .components))
     where
-      go : (b : Bool) → Agrees (f .table) (f .colours) k (pick b (equationAt (f .table) (24 * q) (f .colours) i k) (missing k)) (b && hasIndex (kind (rowOf f q)) (rowOf f q) (f .colours) i) (side (kind (rowOf f q)) (rowOf f q) i)
-      go true = equation-agrees (f .table) (f .colours) few k (rowOf f q) (24 * q) (λ j l. sym (row-at (f .table) q j l)) i
+      go : (b : Bool) → Agrees (f .table) (f .colours) k (pick b (equationAt (f .table) q (f .colours) i k) (missing k)) (b && hasIndex (kind (rowOf f q)) (rowOf f q) (f .colours) i) (side (kind (rowOf f q)) (rowOf f q) i)
+      go true = equation-agrees (f .table) (f .colours) few k q i
       go false = none-agrees (f .table) (f .colours) few k false (side (kind (rowOf f q)) (rowOf f q) i) refl
 
   pub named-verdict : equationVerdict (equationNamed f q i k) ≡ nameVerdict (hasEquation f q i) k
@@ -312,14 +299,14 @@ module _ (f : Netlist) (few : f .colours ≤ 8) (q i k : ℕ) where
   unfolding factor
   named-factor v = named-agrees .factors v
 
-  pub named-within : f .channels ≤ 255 → 24 * f .components ≤ length (f .table) → ((j : ℕ) → j < f .components → RowFacts (f .colours) (f .channels) (rowOf f j)) → InTable (f .table) (equationNamed f q i k)
+  pub named-within : f .channels ≤ mostChannels → rowSize * f .components ≤ length (f .table) → ((j : ℕ) → j < f .components → RowFacts (f .colours) (f .channels) (rowOf f j)) → InTable (f .table) (equationNamed f q i k)
   unfolding equationNamed
   named-within few-channels long rows = go (ltb q (f .components)) refl
     where
-      go : (b : Bool) → ltb q (f .components) ≡ b → InTable (f .table) (pick b (equationAt (f .table) (24 * q) (f .colours) i k) (missing k))
+      go : (b : Bool) → ltb q (f .components) ≡ b → InTable (f .table) (pick b (equationAt (f .table) q (f .colours) i k) (missing k))
       go true e =
           let l = ltb-true q (f .components) e in
           let r = rows q l in
-          equation-within (f .table) (f .colours) few k (rowOf f q) (24 * q) (λ j m. sym (row-at (f .table) q j m)) i
+          equation-within (f .table) (f .colours) few k q i
           (omega (arith, r .ports A)) (omega (arith, r .ports B)) (omega (arith, r .ports C)) (omega arith)
       go false e = record { within = tt }

@@ -7,8 +7,8 @@ use borrow.Author.Tests.{ltb-true, lt-ltb}
 use Rattle.digits.proofs.Bools.{and-both}
 use Rattle.component.specs.Kind.{Kind, isQueue}
 use Rattle.component.specs.Row.{kind}
+use Rattle.component.proofs.ByKind.{is-queue}
 use Rattle.netlist.specs.Netlist.{Netlist, rowOf}
-use Rattle.component.proofs.Kind.{is-queue}
 use Rattle.equations.specs.Equations.{hasIndex, hasEquation}
 
 module _ (f : Netlist) (q i : ℕ) where

@@ -1,10 +1,13 @@
 // The equation that a term names by component and index: its flows, or refusal 12.
 ghost use mathlib.Core.Path.{_≡_};
-ghost use Prim.Native.Nat.{_+_, _*_, _≤_, _<_, _^_};
+ghost use Prim.Native.Nat.{_+_, _*_, _≤_, _<_};
 ghost use lib.ListN.{length};
-ghost use Rattle.equations.specs.Numbers.{missing, bitOf, sourceFlows, queueFlows, mappedFlows, switchFlows, mergeFlows, lowEquation, highEquation, equationOf, equationAt, equationNamed, equationVerdict};
+ghost use Rattle.record.specs.Sizes.{rowSize};
 ghost use Rattle.component.specs.Kind.{kindOf};
+ghost use Rattle.component.specs.Limits.{mostComponents};
 ghost use Rattle.netlist.specs.Netlist.{netlistOf};
+ghost use Rattle.equations.specs.Numbers.{missing, sourceFlows, queueFlows, mappedFlows, switchFlows, mergeFlows, lowEquation, highEquation, equationOf, equationAt, equationNamed, equationVerdict};
+use digits::wide;
 use netlist::Size;
 use refusals::Refusal;
 use refusals::Verdict;
@@ -19,29 +22,16 @@ pub enum Equation {
     Two(usize, usize),
     // L - L - L
     Three(usize, usize, usize),
-    // L(plus) - the flows of the channel from `from` on whose colours the map at `map` takes to `to`
+    // L(plus) - the flows of the channel from `from` on whose colours the component's map, the first or the second, takes to `to`
     Mapped {
         plus: usize,
         from: usize,
-        map: usize,
+        component: usize,
+        second: bool,
         to: usize,
     },
     // all flows of one channel - all flows of another, each from its first on
     All(usize, usize),
-}
-
-fn wide(x: u8) -> usize
-    ensures { λ r. ⌜ (r ≡ x) × (r < 256) ⌝ }
-{
-    x as usize
-}
-
-// Colour d of a mask, colour 0 the highest bit.
-fn bit_of(mask: usize, d: usize) -> bool
-    requires { ⌜ d < 8 ⌝ }
-    ensures { λ r. ⌜ r ≡ bitOf mask d ⌝ }
-{
-    (mask >> (7 - d)) % 2 == 1
 }
 
 // 12: term k names no equation.
@@ -56,7 +46,7 @@ fn source_flows(a: usize, mask: usize, colours: usize, d: usize, term: usize) ->
     ensures { λ r. ⌜ r ≡ sourceFlows a mask colours d term ⌝ }
 {
     if d < colours {
-        if bit_of(mask, d) {
+        if component::has_colour(mask, d) {
             missing(term)
         } else {
             Equation::One(8 * a + d)
@@ -77,15 +67,24 @@ fn queue_flows(a: usize, b: usize, colours: usize, d: usize, term: usize) -> Equ
     }
 }
 
-fn mapped_flows(out: usize, a: usize, map: usize, colours: usize, e: usize, term: usize) -> Equation
+fn mapped_flows(
+    out: usize,
+    a: usize,
+    second: bool,
+    q: usize,
+    colours: usize,
+    e: usize,
+    term: usize,
+) -> Equation
     requires { ⌜ (out < 256) × (a < 256) × (e < 8) ⌝ }
-    ensures { λ r. ⌜ r ≡ mappedFlows out a map colours e term ⌝ }
+    ensures { λ r. ⌜ r ≡ mappedFlows out a second q colours e term ⌝ }
 {
     if e < colours {
         Equation::Mapped {
             plus: 8 * out + e,
             from: 8 * a,
-            map,
+            component: q,
+            second,
             to: e,
         }
     } else {
@@ -126,13 +125,13 @@ fn low_equation(
     b: usize,
     c: usize,
     mask: usize,
-    at: usize,
+    q: usize,
     colours: usize,
     i: usize,
     term: usize,
 ) -> Equation
-    requires { ⌜ (a < 256) × (b < 256) × (c < 256) × (at < 2 ^ 32) × (i < 8) ⌝ }
-    ensures { λ r. ⌜ r ≡ lowEquation (kindOf kind) a b c mask at colours i term ⌝ }
+    requires { ⌜ (a < 256) × (b < 256) × (c < 256) × (i < 8) ⌝ }
+    ensures { λ r. ⌜ r ≡ lowEquation (kindOf kind) a b c mask q colours i term ⌝ }
 {
     match kind {
         // source
@@ -142,13 +141,13 @@ fn low_equation(
         // queue
         2 => queue_flows(a, b, colours, i, term),
         // function
-        3 => mapped_flows(b, a, at + 4, colours, i, term),
+        3 => mapped_flows(b, a, false, q, colours, i, term),
         // fork
-        4 => mapped_flows(b, a, at + 4, colours, i, term),
+        4 => mapped_flows(b, a, false, q, colours, i, term),
         // join
-        5 => mapped_flows(c, a, at + 4, colours, i, term),
+        5 => mapped_flows(c, a, false, q, colours, i, term),
         // switch
-        6 => switch_flows(b, a, bit_of(mask, i), colours, i, term),
+        6 => switch_flows(b, a, component::has_colour(mask, i), colours, i, term),
         // merge
         _ => merge_flows(a, b, c, colours, i, term),
     }
@@ -161,70 +160,77 @@ fn high_equation(
     b: usize,
     c: usize,
     mask: usize,
-    at: usize,
+    q: usize,
     colours: usize,
     i: usize,
     term: usize,
 ) -> Equation
-    requires { ⌜ (a < 256) × (b < 256) × (c < 256) × (at < 2 ^ 32) × (8 ≤ i) × (i < 16) ⌝ }
-    ensures { λ r. ⌜ r ≡ highEquation (kindOf kind) a b c mask at colours i term ⌝ }
+    requires { ⌜ (a < 256) × (b < 256) × (c < 256) × (8 ≤ i) × (i < 16) ⌝ }
+    ensures { λ r. ⌜ r ≡ highEquation (kindOf kind) a b c mask q colours i term ⌝ }
 {
     match kind {
         // fork
-        4 => mapped_flows(c, a, at + 12, colours, i - 8, term),
+        4 => mapped_flows(c, a, true, q, colours, i - 8, term),
         // join
         5 => match i {
             8 => Equation::All(8 * a, 8 * b),
             _ => missing(term),
         },
         // switch
-        6 => switch_flows(c, a, !bit_of(mask, i - 8), colours, i - 8, term),
+        6 => switch_flows(
+            c,
+            a,
+            !component::has_colour(mask, i - 8),
+            colours,
+            i - 8,
+            term,
+        ),
         _ => missing(term),
     }
 }
 
-// The decision over kind and index: the equation of index `i` of a component with these ports and mask, its row at `at`.
+// The decision over kind and index: the equation of index `i` of component `q`, which has these ports and this mask.
 fn equation_of(
     kind: usize,
     a: usize,
     b: usize,
     c: usize,
     mask: usize,
-    at: usize,
+    q: usize,
     colours: usize,
     i: usize,
     term: usize,
 ) -> Equation
-    requires { ⌜ (a < 256) × (b < 256) × (c < 256) × (at < 2 ^ 32) ⌝ }
-    ensures { λ r. ⌜ r ≡ equationOf (kindOf kind) a b c mask at colours i term ⌝ }
+    requires { ⌜ (a < 256) × (b < 256) × (c < 256) ⌝ }
+    ensures { λ r. ⌜ r ≡ equationOf (kindOf kind) a b c mask q colours i term ⌝ }
 {
     match i {
-        0..=7 => low_equation(kind, a, b, c, mask, at, colours, i, term),
-        8..=15 => high_equation(kind, a, b, c, mask, at, colours, i, term),
+        0..=7 => low_equation(kind, a, b, c, mask, q, colours, i, term),
+        8..=15 => high_equation(kind, a, b, c, mask, q, colours, i, term),
         _ => missing(term),
     }
 }
 
-// The equation of index `i` of the component whose row is at `at`.
-fn equation_at(table: &[u8], at: usize, colours: usize, i: usize, term: usize) -> Equation
-    requires { ⌜ (at + 24 ≤ length (now table)) × (at < 2 ^ 32) ⌝ }
-    ensures { λ r. ⌜ r ≡ equationAt (now (table .entry)) at colours i term ⌝ }
+// The equation of index `i` of component `q`.
+fn equation_at(table: &[u8], q: usize, colours: usize, i: usize, term: usize) -> Equation
+    requires { ⌜ rowSize * q + rowSize ≤ length (now table) ⌝ }
+    ensures { λ r. ⌜ r ≡ equationAt (now (table .entry)) q colours i term ⌝ }
 {
-    let kind = wide(table[at]);
-    let a = wide(table[at + 1]);
-    let b = wide(table[at + 2]);
-    let c = wide(table[at + 3]);
-    let mask = wide(table[at + 20]);
-    equation_of(kind, a, b, c, mask, at, colours, i, term)
+    let kind = wide(component::kind(table, q));
+    let a = wide(component::port(table, q, 0));
+    let b = wide(component::port(table, q, 1));
+    let c = wide(component::port(table, q, 2));
+    let mask = wide(component::mask(table, q));
+    equation_of(kind, a, b, c, mask, q, colours, i, term)
 }
 
 // The equation of component `q` and index `i` that a term names.
 pub fn equation_named(table: &[u8], size: Size, q: usize, i: usize, term: usize) -> Equation
-    requires { ⌜ (size .components ≤ 128) × (24 * size .components ≤ length (now table)) ⌝ }
+    requires { ⌜ (size .components ≤ mostComponents) × (rowSize * size .components ≤ length (now table)) ⌝ }
     ensures { λ r. ⌜ r ≡ equationNamed (netlistOf size (now (table .entry))) q i term ⌝ }
 {
     if q < size.components {
-        equation_at(table, 24 * q, size.colours, i, term)
+        equation_at(table, q, size.colours, i, term)
     } else {
         missing(term)
     }
@@ -242,7 +248,8 @@ pub fn verdict_on(e: Equation) -> Verdict
         Equation::Mapped {
             plus: _,
             from: _,
-            map: _,
+            component: _,
+            second: _,
             to: _,
         } => Verdict::Accepted,
         Equation::All(_, _) => Verdict::Accepted,

@@ -3,9 +3,9 @@ use Prim.Native.Nat.{ℕ}
 use mathlib.Core.List.{List, _∷_}
 use lib.Dec.{ltb}
 use Rattle.refusals.specs.Refusals.{test, firstRefusal}
-use Rattle.reader.specs.File.{wireTests, firstBadRow}
 use Rattle.refusals.specs.declared.Refusal.the-variants.{BadField}
 use Rattle.refusals.specs.declared.Verdict.{Verdict}
+use Rattle.reader.specs.File.{wireTests, firstBadRow}
 
 -- the refusals 6 to 8 of a table
 unfoldable pub tableVerdict : ℕ → ℕ → List ℕ → ℕ → Verdict

@@ -1,25 +1,36 @@
 // Unpack, pack and record: the calls on the packed fabric and its open table.
 ghost use mathlib.Core.Path.{_≡_};
-ghost use Prim.Native.Nat.{_+_, _*_, _/_, _%_, _≤_, _<_};
+ghost use Prim.Native.Nat.{_+_, _*_, _≤_, _<_};
 ghost use mathlib.Core.List.{_++_};
 ghost use lib.ListN.{length, take, drop};
-ghost use Rattle.fabric.specs.PackedFile.{headerBytes, packedFile};
-ghost use Rattle.fabric.specs.Calls.{unpacked, unpackedTable, packed, packedInto, recordStart, recordLength};
 ghost use Rattle.refusals.specs.Room.{roomFor};
 ghost use Rattle.refusals.specs.declared.Verdict.the-variants.{Accepted};
+ghost use Rattle.record.specs.Sizes.{fileSize, rowSize, headerSize};
+ghost use Rattle.component.specs.Limits.{mostColours, mostComponents};
 ghost use Rattle.reader.specs.Reading.{readAs};
+ghost use Rattle.fabric.specs.PackedFile.{headerBytes, packedFile};
+ghost use Rattle.fabric.specs.Calls.{unpacked, unpackedTable, packed, packedInto, recordStart, recordLength};
 ghost use Rattle.fabric.specs.Stages.{tableVerdict};
+use component::MOST_CHANNELS;
+use component::MOST_COLOURS;
+use component::MOST_COMPONENTS;
+use component::TABLE_SIZE;
 use netlist::Size;
+use order::MOST_SIGNALS;
 use reader::Reading;
+use record::HEADER_SIZE;
+use record::RECORD_SIZE;
+use record::ROW_SIZE;
 use refusals::Refusal;
 use refusals::Verdict;
+use wiring::ENDS_SIZE;
 
 // What unpack answers of a file that is read, with so much space for its table.
 fn with_room(size: Size, space: usize) -> Reading
-    requires { ⌜ size .components ≤ 128 ⌝ }
-    ensures { λ r. ⌜ r ≡ readAs (roomFor Accepted space (24 * size .components)) size ⌝ }
+    requires { ⌜ size .components ≤ mostComponents ⌝ }
+    ensures { λ r. ⌜ r ≡ readAs (roomFor Accepted space (rowSize * size .components)) size ⌝ }
 {
-    let need = 24 * size.components;
+    let need = ROW_SIZE * size.components;
     reader::read_as(refusals::room_for(Verdict::Accepted, space, need), size)
 }
 
@@ -37,9 +48,9 @@ pub fn unpack_answer(file: &[u8], space: usize) -> Reading
 pub fn unpack(file: &[u8], table: &mut [u8]) -> Reading
     ensures { λ r. ⌜ (r ≡ unpacked (now (file .entry)) (length (now (table .entry)))) × (now (table .exit) ≡ unpackedTable (now (file .entry)) (now (table .entry))) ⌝ }
 {
-    let mut rows = [0u8; 3072];
-    let mut ends = [0u16; 513];
-    let mut order = [0u16; 510];
+    let mut rows = [0u8; TABLE_SIZE];
+    let mut ends = [0u16; ENDS_SIZE];
+    let mut order = [0u16; MOST_SIGNALS];
     match reader::read(file, &mut rows, &mut ends, &mut order) {
         Reading::Rejected(e) => Reading::Rejected(e),
         Reading::Fabric(size) => {
@@ -47,7 +58,7 @@ pub fn unpack(file: &[u8], table: &mut [u8]) -> Reading
             match answer {
                 Reading::Rejected(e) => Reading::Rejected(e),
                 Reading::Fabric(given) => {
-                    digits::copy(&rows, 24 * size.components, &mut *table, 0);
+                    digits::copy(&rows, ROW_SIZE * size.components, &mut *table, 0);
                     Reading::Fabric(given)
                 }
             }
@@ -65,8 +76,8 @@ pub fn record(file: &[u8], k: usize) -> &[u8]
         Reading::Fabric(size) => {
             let n = size.components;
             if k < n {
-                let start = 4 + 13 * k;
-                let end = start + 13;
+                let start = HEADER_SIZE + RECORD_SIZE * k;
+                let end = start + RECORD_SIZE;
                 return &file[start..end];
             }
             &file[0..0]
@@ -75,7 +86,7 @@ pub fn record(file: &[u8], k: usize) -> &[u8]
 }
 
 // The header's 4 bytes, of which c is one less than the count of colours.
-fn header_of(c: u8, components: u8, channels: u8, check: u8) -> [u8; 4]
+fn header_of(c: u8, components: u8, channels: u8, check: u8) -> [u8; HEADER_SIZE]
     requires { ⌜ c < 8 ⌝ }
     ensures { λ r. ⌜ r ≡ headerBytes (c + 1) components channels check ⌝ }
 {
@@ -83,9 +94,9 @@ fn header_of(c: u8, components: u8, channels: u8, check: u8) -> [u8; 4]
 }
 
 // Writes the 4 bytes at the front.
-fn put_header(out: &mut [u8], h: [u8; 4])
-    requires { ⌜ 4 ≤ length (now out) ⌝ }
-    ensures { λ _. ⌜ now (out .exit) ≡ h ++ drop 4 (now (out .entry)) ⌝ }
+fn put_header(out: &mut [u8], h: [u8; HEADER_SIZE])
+    requires { ⌜ headerSize ≤ length (now out) ⌝ }
+    ensures { λ _. ⌜ now (out .exit) ≡ h ++ drop headerSize (now (out .entry)) ⌝ }
 {
     out[0] = h[0];
     out[1] = h[1];
@@ -95,13 +106,13 @@ fn put_header(out: &mut [u8], h: [u8; 4])
 
 // Writes the whole file: records, the header with no check byte, and the header again with it.
 fn put_file(c: u8, channels: u8, table: &[u8], components: u8, out: &mut [u8])
-    requires { ⌜ (c < 8) × (24 * components ≤ length (now table)) × (4 + 13 * components ≤ length (now out)) ⌝ }
-    ensures { λ _. ⌜ now (out .exit) ≡ packedFile (c + 1) channels (now (table .entry)) components ++ drop (4 + 13 * components) (now (out .entry)) ⌝ }
+    requires { ⌜ (c < 8) × (rowSize * components ≤ length (now table)) × (fileSize components ≤ length (now out)) ⌝ }
+    ensures { λ _. ⌜ now (out .exit) ≡ packedFile (c + 1) channels (now (table .entry)) components ++ drop (fileSize components) (now (out .entry)) ⌝ }
 {
     let n = components as usize;
     record::put_records(table, n, &mut *out);
     put_header(&mut *out, header_of(c, components, channels, 0));
-    let end = 4 + 13 * n;
+    let end = HEADER_SIZE + RECORD_SIZE * n;
     let s = digits::byte_sum(&out[..end]);
     put_header(
         &mut *out,
@@ -111,15 +122,15 @@ fn put_file(c: u8, channels: u8, table: &[u8], components: u8, out: &mut [u8])
 
 // The refusals 6 to 8 of a table of n rows.
 fn table_verdict(table: &[u8], n: usize, colours: u8, channels: u8) -> Verdict
-    requires { ⌜ (length (now table) ≡ 24 * n) × (n ≤ 128) × (colours ≤ 8) ⌝ }
+    requires { ⌜ (length (now table) ≡ rowSize * n) × (n ≤ mostComponents) × (colours ≤ mostColours) ⌝ }
     ensures { λ r. ⌜ r ≡ tableVerdict colours channels (now (table .entry)) n ⌝ }
 {
     let bad = reader::first_bad_row(table, n, colours, channels);
     if bad < n {
         return Verdict::Refused(Refusal::BadField(bad));
     }
-    let mut ends = [0u16; 513];
-    let mut order = [0u16; 510];
+    let mut ends = [0u16; ENDS_SIZE];
+    let mut order = [0u16; MOST_SIGNALS];
     let found = wiring::wire(table, n, channels as usize, &mut ends, &mut order);
     reader::wired_verdict(found)
 }
@@ -128,17 +139,23 @@ fn table_verdict(table: &[u8], n: usize, colours: u8, channels: u8) -> Verdict
 pub fn pack_answer(colours: u64, channels: u64, table: &[u8], space: usize) -> Verdict
     ensures { λ r. ⌜ r ≡ packed colours channels (now (table .entry)) space ⌝ }
 {
-    let n = table.len() / 24;
-    if table.len() % 24 != 0 {
+    let n = table.len() / ROW_SIZE;
+    if table.len() % ROW_SIZE != 0 {
         return Verdict::Refused(Refusal::WrongLength);
     }
-    if (n == 0) | (128 < n) | (channels == 0) | (255 < channels) | (colours == 0) | (8 < colours) {
+    if (n == 0)
+        | (MOST_COMPONENTS < n)
+        | (channels == 0)
+        | ((MOST_CHANNELS as u64) < channels)
+        | (colours == 0)
+        | ((MOST_COLOURS as u64) < colours)
+    {
         return Verdict::Refused(Refusal::CountRange);
     }
     refusals::room_for(
         table_verdict(table, n, colours as u8, channels as u8),
         space,
-        4 + 13 * n,
+        HEADER_SIZE + RECORD_SIZE * n,
     )
 }
 
@@ -149,7 +166,7 @@ pub fn pack(colours: u64, channels: u64, table: &[u8], file: &mut [u8]) -> Verdi
     match pack_answer(colours, channels, table, file.len()) {
         Verdict::Refused(e) => Verdict::Refused(e),
         Verdict::Accepted => {
-            let n = table.len() / 24;
+            let n = table.len() / ROW_SIZE;
             put_file(
                 (colours - 1) as u8,
                 channels as u8,

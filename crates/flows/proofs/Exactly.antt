@@ -1,29 +1,25 @@
 -- A well formed proposal is accepted exactly if every flow cancels and some weight is not 0. Assumes nothing.
 use mathlib.Core.Path.{_≡_, refl, sym, ap, _∙_}
-use mathlib.Core.Bool.{Bool, true, false, cond, not, _&&_, _||_, true≢false}
+use mathlib.Core.Bool.{Bool, true, false, cond, not, _&&_, true≢false}
 use mathlib.Core.List.{List}
 use Prim.Native.Nat.{ℕ, _+_, _*_, _/_, _%_, _≤_, _<_}
 use native.Mathlib.Omega.{arith}
-use lib.Dec.{ltb, eqb}
-use lib.ListN.{length}
+use lib.Dec.{ltb}
 use lib.IntN.{pos}
-use borrow.Author.Tests.{ltb-true, ltb-false, lt-ltb, le-ltb, eqb-true, eqb-false, ne-eqb, not-false}
-use Rattle.integers.specs.Sum.{isZero}
-use Rattle.integers.proofs.Sum.{zero-is, is-zero}
+use borrow.Author.Tests.{ltb-true, ltb-false, lt-ltb, le-ltb, eqb-false, ne-eqb}
 use Rattle.digits.specs.Least.{least}
 use Rattle.digits.proofs.Least.{least-none, least-before, least-true, least-le}
-use Rattle.netlist.specs.Netlist.{Netlist}
-use Rattle.refusals.proofs.Refusals.{cond-accepted}
+use Rattle.integers.specs.Sum.{isZero}
+use Rattle.integers.proofs.Sum.{zero-is, is-zero}
 use Rattle.refusals.specs.declared.Refusal.the-variants.{ProposalLength, NoEquation, FlowLeft, NoWeight}
 use Rattle.refusals.specs.declared.Verdict.the-variants.{Accepted}
+use Rattle.refusals.proofs.Refusals.{cond-accepted}
+use Rattle.component.specs.Limits.{mostColours}
+use Rattle.netlist.specs.Netlist.{Netlist}
 use Rattle.flows.specs.Terms.{terms}
 use Rattle.flows.specs.Flows.{flowSum, Cancels, weight, entry}
 use Rattle.flows.specs.Verdict.{badLength, badTerm, firstBadTerm, isLeft, lowestLeft, isWeight, weightless, judged, WellFormed, SomeWeight}
 use Rattle.flows.proofs.Weights.{entry-weight}
-
-or-false : (a b : Bool) → (a || b) ≡ false → (a ≡ false) × (b ≡ false)
-or-false true b e = absurd (true≢false e)
-or-false false b e = (refl, e)
 
 not-both : (a b : Bool) → (a && not b) ≡ false → a ≡ true → b ≡ true
 not-both true true e q = refl
@@ -32,7 +28,7 @@ not-both false b e q = absurd (true≢false (sym q))
 
 module _ (f : Netlist) (p : List ℕ) where
   -- no flow left: every flow cancels
-  pub none-left-cancels : f .colours ≤ 8 → lowestLeft f p ≡ 8 * f .channels → Cancels f p
+  pub none-left-cancels : f .colours ≤ mostColours → lowestLeft f p ≡ 8 * f .channels → Cancels f p
   unfolding isLeft
   none-left-cancels few e x d lx ld =
       let ex : (8 * x + d) / 8 ≡ x = omega arith in
@@ -78,7 +74,7 @@ module _ (f : Netlist) (p : List ℕ) where
       go false e = absurd (true≢false (sym found ∙ ap not (is-zero (entry f p u) (ap (λ (b : Bool). cond b (weight f p (u / 8) (u % 8)) (pos 0)) e))))
 
   -- and back
-  pub some-weighty : f .colours ≤ 8 → SomeWeight f p → least (isWeight f p) (8 * f .components) ≡ 8 * f .components → ⊥
+  pub some-weighty : f .colours ≤ mostColours → SomeWeight f p → least (isWeight f p) (8 * f .components) ≡ 8 * f .components → ⊥
   unfolding isWeight
   some-weighty few (q, d, lq, ld, ne) e =
       ne (sym (entry-weight f p q d (omega arith) ld) ∙ zero-is (entry f p (8 * q + d)) (not-both true (isZero (entry f p (8 * q + d))) (least-before (isWeight f p) (8 * f .components) (8 * q + d) (omega (arith, e))) refl))
@@ -99,14 +95,14 @@ module _ (f : Netlist) (p : List ℕ) where
     named = λ k l. least-before (badTerm f p) (terms p) k (omega (arith, ltb-false (firstBadTerm f p) (terms p) (parts e .1)));
   }
 
-  pub accepted-cancels : f .colours ≤ 8 → judged f p ≡ Accepted → Cancels f p
+  pub accepted-cancels : f .colours ≤ mostColours → judged f p ≡ Accepted → Cancels f p
   accepted-cancels few e =
       none-left-cancels few (omega (arith, ltb-false (lowestLeft f p) (8 * f .channels) (parts e .2), least-le (isLeft f p) (8 * f .channels)))
 
   pub accepted-weighty : judged f p ≡ Accepted → SomeWeight f p
   accepted-weighty e = weighty-some (eqb-false (least (isWeight f p) (8 * f .components)) (8 * f .components) (parts e .3))
 
-  pub accepted-exactly : f .colours ≤ 8 → WellFormed f p → Cancels f p → SomeWeight f p → judged f p ≡ Accepted
+  pub accepted-exactly : f .colours ≤ mostColours → WellFormed f p → Cancels f p → SomeWeight f p → judged f p ≡ Accepted
   unfolding judged
   accepted-exactly few w c s =
       let k : terms p ≤ firstBadTerm f p = omega (arith, least-none (badTerm f p) (terms p) (w .named)) in

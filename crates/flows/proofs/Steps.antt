@@ -14,12 +14,12 @@ use Rattle.integers.proofs.Lines.{by-lines-2}
 use Rattle.component.specs.Kind.{isQueue}
 use Rattle.component.specs.Row.{kind}
 use Rattle.netlist.specs.Netlist.{Netlist, rowOf}
+use Rattle.netlist.specs.Accepted.{AcceptedNetlist}
 use Rattle.equations.specs.Equations.{sideIf, hasEquation, side, factor}
-use Rattle.flows.specs.Terms.{terms, component, index, multiplier}
-use Rattle.flows.specs.Flows.{flowSum, Cancels, weight, acceptedSum}
-use Rattle.flows.specs.Verdict.{ReadFabric}
-use Rattle.flows.specs.Steps.{flowChange, countChange, Holds, Steps, none, then}
 use Rattle.equations.proofs.Queues.{queue-low, queue-has, known-place}
+use Rattle.flows.specs.Terms.{terms, componentOf, index, multiplier}
+use Rattle.flows.specs.Flows.{flowSum, Cancels, weight, acceptedSum}
+use Rattle.flows.specs.Steps.{flowChange, countChange, Holds, History, none, then}
 
 -- a - b is 0
 differ : (a b : ℤ) → a -ℤ b ≡ pos 0 → a ≡ b
@@ -35,7 +35,7 @@ sum-less n g k = sum-add n g (λ i. negℤ (k i)) ∙ ap (λ (z : ℤ). sumTo n 
 countIn : Netlist → ℕ → ℕ → ℕ → ℕ → ℤ
 countIn f k i q d = cond (isQueue (kind (rowOf f q))) (cond (eqb k q && eqb i d) (pos 1) (pos 0)) (pos 0)
 
-module _ (f : Netlist) (h : ReadFabric f) (p : List ℕ) (moved : ℕ → ℕ → ℤ) (n n′ : ℕ → ℕ → ℕ) where
+module _ (f : Netlist) (h : AcceptedNetlist f) (p : List ℕ) (moved : ℕ → ℕ → ℤ) (n n′ : ℕ → ℕ → ℕ) where
   -- by how much n(q,d) changes
   grows : ℕ → ℕ → ℤ
   grows q d = pos (n′ q d) -ℤ pos (n q d)
@@ -119,7 +119,7 @@ module _ (f : Netlist) (h : ReadFabric f) (p : List ℕ) (moved : ℕ → ℕ �
             ∙ count-none k i (λ q d l m. vanish k i q d l m (λ e lk li. true≢false (sym (queue-has f k i lk e ∙ lt-ltb i (f .colours) li) ∙ ea)))
 
     -- ---- all terms
-    weight-column : (q d : ℕ) → weight f p q d ≡ sumTo (terms p) (λ k. multiplier p k *ℤ countIn f (component p k) (index p k) q d)
+    weight-column : (q d : ℕ) → weight f p q d ≡ sumTo (terms p) (λ k. multiplier p k *ℤ countIn f (componentOf p k) (index p k) q d)
     unfolding weight countIn one
     weight-column q d = go (isQueue (kind (rowOf f q)))
       where
@@ -127,17 +127,17 @@ module _ (f : Netlist) (h : ReadFabric f) (p : List ℕ) (moved : ℕ → ℕ �
         term k true = sym (*ℤ-one (multiplier p k))
         term k false = sym (*ℤ-zero (multiplier p k))
 
-        go : (b : Bool) → cond b (sumTo (terms p) (λ k. cond (eqb (component p k) q && eqb (index p k) d) (multiplier p k) (pos 0))) (pos 0)
-            ≡ sumTo (terms p) (λ k. multiplier p k *ℤ cond b (cond (eqb (component p k) q && eqb (index p k) d) (pos 1) (pos 0)) (pos 0))
-        go true = sum-cong (terms p) (λ k. cond (eqb (component p k) q && eqb (index p k) d) (multiplier p k) (pos 0)) (λ k. multiplier p k *ℤ cond (eqb (component p k) q && eqb (index p k) d) (pos 1) (pos 0))
-            (λ k l. term k (eqb (component p k) q && eqb (index p k) d))
+        go : (b : Bool) → cond b (sumTo (terms p) (λ k. cond (eqb (componentOf p k) q && eqb (index p k) d) (multiplier p k) (pos 0))) (pos 0)
+            ≡ sumTo (terms p) (λ k. multiplier p k *ℤ cond b (cond (eqb (componentOf p k) q && eqb (index p k) d) (pos 1) (pos 0)) (pos 0))
+        go true = sum-cong (terms p) (λ k. cond (eqb (componentOf p k) q && eqb (index p k) d) (multiplier p k) (pos 0)) (λ k. multiplier p k *ℤ cond (eqb (componentOf p k) q && eqb (index p k) d) (pos 1) (pos 0))
+            (λ k l. term k (eqb (componentOf p k) q && eqb (index p k) d))
         go false = sym (sum-zero (terms p) (λ k. multiplier p k *ℤ pos 0) (λ k l. *ℤ-zero (multiplier p k)))
 
     -- the flows, by terms
-    flows-zero : Cancels f p → sumTo (terms p) (λ k. multiplier p k *ℤ flowChange f (component p k) (index p k) moved) ≡ pos 0
+    flows-zero : Cancels f p → sumTo (terms p) (λ k. multiplier p k *ℤ flowChange f (componentOf p k) (index p k) moved) ≡ pos 0
     unfolding flowChange flowSum
     flows-zero c =
-        sym (by-lines-2 (terms p) (multiplier p) (f .channels) (f .colours) (λ k x d. factor f (component p k) (index p k) x d) moved)
+        sym (by-lines-2 (terms p) (multiplier p) (f .channels) (f .colours) (λ k x d. factor f (componentOf p k) (index p k) x d) moved)
         ∙ sum-zero (f .channels) (λ x. sumTo (f .colours) (λ d. flowSum f p x d *ℤ moved x d))
         (λ x l. sum-zero (f .colours) (λ d. flowSum f p x d *ℤ moved x d) (λ d m. ap (λ (z : ℤ). z *ℤ moved x d) (c x d l m) ∙ zero-*ℤ (moved x d)))
 
@@ -145,16 +145,16 @@ module _ (f : Netlist) (h : ReadFabric f) (p : List ℕ) (moved : ℕ → ℕ �
     weighted-zero : Cancels f p → sumTo (f .components) (λ q. sumTo (f .colours) (λ d. weight f p q d *ℤ grows q d)) ≡ pos 0
     unfolding count-side
     weighted-zero c =
-        sum-cong (f .components) (λ q. sumTo (f .colours) (λ d. weight f p q d *ℤ grows q d)) (λ q. sumTo (f .colours) (λ d. sumTo (terms p) (λ k. multiplier p k *ℤ countIn f (component p k) (index p k) q d) *ℤ grows q d))
-        (λ q l. sum-cong (f .colours) (λ d. weight f p q d *ℤ grows q d) (λ d. sumTo (terms p) (λ k. multiplier p k *ℤ countIn f (component p k) (index p k) q d) *ℤ grows q d)
+        sum-cong (f .components) (λ q. sumTo (f .colours) (λ d. weight f p q d *ℤ grows q d)) (λ q. sumTo (f .colours) (λ d. sumTo (terms p) (λ k. multiplier p k *ℤ countIn f (componentOf p k) (index p k) q d) *ℤ grows q d))
+        (λ q l. sum-cong (f .colours) (λ d. weight f p q d *ℤ grows q d) (λ d. sumTo (terms p) (λ k. multiplier p k *ℤ countIn f (componentOf p k) (index p k) q d) *ℤ grows q d)
         (λ d m. ap (λ (z : ℤ). z *ℤ grows q d) (weight-column q d)))
-        ∙ by-lines-2 (terms p) (multiplier p) (f .components) (f .colours) (λ k q d. countIn f (component p k) (index p k) q d) grows
-        ∙ sym (+ℤ-idl (sumTo (terms p) (λ k. multiplier p k *ℤ count-side (component p k) (index p k))))
-        ∙ ap (λ (z : ℤ). z +ℤ sumTo (terms p) (λ k. multiplier p k *ℤ count-side (component p k) (index p k))) (sym (flows-zero c))
-        ∙ sym (sum-add (terms p) (λ k. multiplier p k *ℤ flowChange f (component p k) (index p k) moved) (λ k. multiplier p k *ℤ count-side (component p k) (index p k)))
-        ∙ sum-zero (terms p) (λ k. multiplier p k *ℤ flowChange f (component p k) (index p k) moved +ℤ multiplier p k *ℤ count-side (component p k) (index p k))
-        (λ k l. sym (distrib-l (multiplier p k) (flowChange f (component p k) (index p k) moved) (count-side (component p k) (index p k)))
-        ∙ ap (λ (z : ℤ). multiplier p k *ℤ z) (kept (component p k) (index p k)) ∙ *ℤ-zero (multiplier p k))
+        ∙ by-lines-2 (terms p) (multiplier p) (f .components) (f .colours) (λ k q d. countIn f (componentOf p k) (index p k) q d) grows
+        ∙ sym (+ℤ-idl (sumTo (terms p) (λ k. multiplier p k *ℤ count-side (componentOf p k) (index p k))))
+        ∙ ap (λ (z : ℤ). z +ℤ sumTo (terms p) (λ k. multiplier p k *ℤ count-side (componentOf p k) (index p k))) (sym (flows-zero c))
+        ∙ sym (sum-add (terms p) (λ k. multiplier p k *ℤ flowChange f (componentOf p k) (index p k) moved) (λ k. multiplier p k *ℤ count-side (componentOf p k) (index p k)))
+        ∙ sum-zero (terms p) (λ k. multiplier p k *ℤ flowChange f (componentOf p k) (index p k) moved +ℤ multiplier p k *ℤ count-side (componentOf p k) (index p k))
+        (λ k l. sym (distrib-l (multiplier p k) (flowChange f (componentOf p k) (index p k) moved) (count-side (componentOf p k) (index p k)))
+        ∙ ap (λ (z : ℤ). multiplier p k *ℤ z) (kept (componentOf p k) (index p k)) ∙ *ℤ-zero (multiplier p k))
 
     -- the accepted sum after a step equals that before it
     pub step-constant : Cancels f p → acceptedSum f p n′ ≡ acceptedSum f p n
@@ -167,6 +167,6 @@ module _ (f : Netlist) (h : ReadFabric f) (p : List ℕ) (moved : ℕ → ℕ �
         ∙ weighted-zero c)
 
 -- and so after steps in a row
-pub steps-constant : (f : Netlist) → ReadFabric f → (p : List ℕ) → Cancels f p → {n n′ : ℕ → ℕ → ℕ} → Steps f n n′ → acceptedSum f p n′ ≡ acceptedSum f p n
+pub steps-constant : (f : Netlist) → AcceptedNetlist f → (p : List ℕ) → Cancels f p → {n n′ : ℕ → ℕ → ℕ} → History f n n′ → acceptedSum f p n′ ≡ acceptedSum f p n
 steps-constant f h p c none = refl
 steps-constant f h p c (then {n} {n′} moved t ts) = steps-constant f h p c ts ∙ step-constant f h p moved n n′ t c

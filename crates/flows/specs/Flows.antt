@@ -10,11 +10,11 @@ use Rattle.component.specs.Kind.{isQueue}
 use Rattle.component.specs.Row.{kind, filling, fillColour}
 use Rattle.netlist.specs.Netlist.{Netlist, rowOf}
 use Rattle.equations.specs.Equations.{factor}
-use Rattle.flows.specs.Terms.{terms, component, index, multiplier}
+use Rattle.flows.specs.Terms.{terms, componentOf, index, multiplier}
 
 -- over all terms of the proposal, the multiplier times the factor of L(x,d) in the named equation
 unfoldable pub flowSum : Netlist → List ℕ → ℕ → ℕ → ℤ
-flowSum f p x d = sumTo (terms p) (λ k. multiplier p k *ℤ factor f (component p k) (index p k) x d)
+flowSum f p x d = sumTo (terms p) (λ k. multiplier p k *ℤ factor f (componentOf p k) (index p k) x d)
 
 -- A flow is one L(x,d), x below M and d below C. It cancels if that adds up to 0.
 abbrev pub Cancels : Netlist → List ℕ → Type 0
@@ -22,7 +22,7 @@ Cancels f p = (x d : ℕ) → x < f .channels → d < f .colours → flowSum f p
 
 -- The weight of n(q,d) is the sum of the multipliers of the terms that name queue q and index d.
 unfoldable pub weight : Netlist → List ℕ → ℕ → ℕ → ℤ
-weight f p q d = cond (isQueue (kind (rowOf f q))) (sumTo (terms p) (λ k. cond (eqb (component p k) q && eqb (index p k) d) (multiplier p k) (pos 0))) (pos 0)
+weight f p q d = cond (isQueue (kind (rowOf f q))) (sumTo (terms p) (λ k. cond (eqb (componentOf p k) q && eqb (index p k) d) (multiplier p k) (pos 0))) (pos 0)
 
 -- entry 8 times q plus d is the weight of n(q,d), other entries 0
 unfoldable pub entry : Netlist → List ℕ → ℕ → ℤ

@@ -22,6 +22,6 @@ pub record Holds (f : Netlist) (moved : ℕ → ℕ → ℤ) (n n′ : ℕ → �
   pub holds : (k i : ℕ) → hasEquation f k i ≡ true → flowChange f k i moved +ℤ countChange f k i n n′ ≡ pos 0
 
 -- steps in a row: the counts after each, and what moved in it
-pub data Steps (f : Netlist) : (ℕ → ℕ → ℕ) → (ℕ → ℕ → ℕ) → Type 0 where
-  none : {n : ℕ → ℕ → ℕ} → Steps f n n
-  then : {n n′ n″ : ℕ → ℕ → ℕ} (moved : ℕ → ℕ → ℤ) → Holds f moved n n′ → Steps f n′ n″ → Steps f n n″
+pub data History (f : Netlist) : (ℕ → ℕ → ℕ) → (ℕ → ℕ → ℕ) → Type 0 where
+  none : {n : ℕ → ℕ → ℕ} → History f n n
+  then : {n n′ n″ : ℕ → ℕ → ℕ} (moved : ℕ → ℕ → ℤ) → Holds f moved n n′ → History f n′ n″ → History f n n″

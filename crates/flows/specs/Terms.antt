@@ -7,6 +7,9 @@ use lib.ListN.{length, getD}
 use lib.IntN.{ℤ, pos, _-ℤ_}
 use Rattle.digits.specs.Packed.{joined, fields, bytes}
 
+abbrev pub mostTerms : ℕ
+mostTerms = 4096
+
 abbrev pub terms : List ℕ → ℕ
 terms p = length p / 4
 
@@ -18,8 +21,8 @@ termFields p k = fields (7 ∷ 4 ∷ 21 ∷ []) (joined (bytes 4) p (4 * k))
 abbrev pub signed : ℕ → ℕ → ℤ
 signed w n = cond (ltb n (2 ^ (w - 1))) (pos n) (pos n -ℤ pos (2 ^ w))
 
-unfoldable pub component : List ℕ → ℕ → ℕ
-component p k = getD (termFields p k) 0 0
+unfoldable pub componentOf : List ℕ → ℕ → ℕ
+componentOf p k = getD (termFields p k) 0 0
 
 unfoldable pub index : List ℕ → ℕ → ℕ
 index p k = getD (termFields p k) 1 0

@@ -2,32 +2,31 @@
 use mathlib.Core.Path.{_≡_}
 use mathlib.Core.Bool.{Bool, false, not, _&&_, _||_}
 use mathlib.Core.List.{List, [], _∷_, _++_}
-use Prim.Native.Nat.{ℕ, _*_, _/_, _%_, _^_, _≤_, _<_}
+use Prim.Native.Nat.{ℕ, _*_, _/_, _%_, _^_, _<_}
 use lib.Dec.{ltb, eqb}
 use lib.ListN.{length, drop}
 use lib.IntN.{ℤ, pos}
 use mir.Syntax.{w64}
 use mir.Val.{ofZ}
-use Rattle.integers.specs.Sum.{isZero}
 use Rattle.digits.specs.Least.{least}
 use Rattle.digits.specs.UpTo.{upTo}
-use Rattle.component.specs.Facts.{RowFacts}
-use Rattle.netlist.specs.Netlist.{Netlist, rowOf}
+use Rattle.integers.specs.Sum.{isZero}
 use Rattle.refusals.specs.Refusals.{Test, test, firstRefusal}
 use Rattle.refusals.specs.declared.Refusal.the-variants.{ProposalLength, NoEquation, FlowLeft, NoWeight, ResultSpace}
 use Rattle.refusals.specs.declared.Verdict.{Verdict}
 use Rattle.refusals.specs.declared.Verdict.the-variants.{Accepted, Refused}
+use Rattle.netlist.specs.Netlist.{Netlist}
 use Rattle.equations.specs.Equations.{hasEquation}
-use Rattle.flows.specs.Terms.{terms, component, index}
+use Rattle.flows.specs.Terms.{terms, componentOf, index, mostTerms}
 use Rattle.flows.specs.Flows.{flowSum, weight, entry, constant}
 
 -- 11 proposal length no multiple of 4, or over 16,384
 abbrev pub badLength : List ℕ → Bool
-badLength p = not (eqb (length p % 4) 0) || ltb 16384 (length p)
+badLength p = not (eqb (length p % 4) 0) || ltb (4 * mostTerms) (length p)
 
 -- 12 no such component or equation (first such term, from 0)
 unfoldable pub badTerm : Netlist → List ℕ → ℕ → Bool
-badTerm f p k = not (hasEquation f (component p k) (index p k))
+badTerm f p k = not (hasEquation f (componentOf p k) (index p k))
 
 abbrev pub firstBadTerm : Netlist → List ℕ → ℕ
 firstBadTerm f p = least (badTerm f p) (terms p)
@@ -93,11 +92,3 @@ weightByte g j = byteOf (g (j / 8)) (j % 8)
 unfoldable pub bytesBy : Verdict → Netlist → List ℕ → List ℕ → List ℕ
 bytesBy Accepted f p bytes = upTo (8 * (8 * f .components)) (weightByte (entry f p)) ++ drop (8 * (8 * f .components)) bytes
 bytesBy (Refused r) f p bytes = bytes
-
--- what is asked of the fabric: it was read
-pub record ReadFabric (f : Netlist) : Type 0 where
-  pub fewColours : f .colours ≤ 8
-  pub fewChannels : f .channels ≤ 255
-  pub fewRows : f .components ≤ 128
-  pub long : 24 * f .components ≤ length (f .table)
-  pub rows : (k : ℕ) → k < f .components → RowFacts (f .colours) (f .channels) (rowOf f k)

@@ -9,8 +9,10 @@ use native.Mathlib.Nat.{add-zero, add-suc}
 use lib.Dec.{ltb, eqb}
 use lib.ListN.{getD}
 use borrow.Author.Tests.{lt-ltb, le-ltb}
+use Rattle.digits.proofs.Bools.{and-true}
 use Rattle.component.specs.Kind.{kindOf}
 use Rattle.component.specs.Row.{kind, masked}
+use Rattle.component.proofs.ByKind.{later-kind, no-queue}
 use Rattle.cells.specs.Good.{emitted, goodByte, all, goodCell}
 
 pub emitted-at : (r : List ℕ) (b : ℕ) → (b ≡ 0 → ⊥) → emitted r b ≡ (ltb (b - 1) 8 && masked r (b - 1))
@@ -19,26 +21,12 @@ emitted-at r (suc d) h = let e : suc d - 1 ≡ d = omega arith in rw e
 
 -- every other kind
 pub first-rest : (k : ℕ) (r : List ℕ) (c n b : ℕ) → (k ≡ 0 → ⊥) → (k ≡ 1 → ⊥) → (k ≡ 2 → ⊥) → eqb b 0 ≡ goodByte (kindOf k) r c n 0 b
-unfolding goodByte kindOf
-first-rest zero r c n b h0 h1 h2 = absurd (h0 refl)
-first-rest (suc zero) r c n b h0 h1 h2 = absurd (h1 refl)
-first-rest (suc (suc zero)) r c n b h0 h1 h2 = absurd (h2 refl)
-first-rest (suc (suc (suc zero))) r c n b h0 h1 h2 = refl
-first-rest (suc (suc (suc (suc zero)))) r c n b h0 h1 h2 = refl
-first-rest (suc (suc (suc (suc (suc zero))))) r c n b h0 h1 h2 = refl
-first-rest (suc (suc (suc (suc (suc (suc zero)))))) r c n b h0 h1 h2 = refl
-first-rest (suc (suc (suc (suc (suc (suc (suc k))))))) r c n b h0 h1 h2 = refl
+unfolding goodByte
+first-rest k r c n b = later-kind (λ d. eqb b 0 ≡ goodByte d r c n 0 b) refl refl refl refl refl k
 
 later-rest : (k : ℕ) (r : List ℕ) (c n j b : ℕ) → (k ≡ 2 → ⊥) → eqb b 0 ≡ goodByte (kindOf k) r c n (suc j) b
-unfolding goodByte kindOf
-later-rest zero r c n j b h = refl
-later-rest (suc zero) r c n j b h = refl
-later-rest (suc (suc zero)) r c n j b h = absurd (h refl)
-later-rest (suc (suc (suc zero))) r c n j b h = refl
-later-rest (suc (suc (suc (suc zero)))) r c n j b h = refl
-later-rest (suc (suc (suc (suc (suc zero))))) r c n j b h = refl
-later-rest (suc (suc (suc (suc (suc (suc zero)))))) r c n j b h = refl
-later-rest (suc (suc (suc (suc (suc (suc (suc k))))))) r c n j b h = refl
+unfolding goodByte
+later-rest k r c n j b = no-queue (λ d. eqb b 0 ≡ goodByte d r c n (suc j) b) refl refl refl refl refl refl refl k
 
 -- a turn of a loop that tests all numbers below a bound
 pub all-turn : (n : ℕ) (p : ℕ → Bool) (g t : Bool) → g ≡ all n p → t ≡ p n → (g && t) ≡ all (n + 1) p
@@ -57,10 +45,6 @@ all-same (suc n) p q h = rw (all-same n p q (λ j l. h j (omega arith)), h n (om
 and-assoc : (a b c : Bool) → ((a && b) && c) ≡ (a && (b && c))
 and-assoc true b c = refl
 and-assoc false b c = refl
-
-and-true : (a : Bool) → (a && true) ≡ a
-and-true true = refl
-and-true false = refl
 
 -- all numbers below a sum
 all-split : (m n : ℕ) (p : ℕ → Bool) → all (m + n) p ≡ (all m p && all n (λ j. p (m + j)))

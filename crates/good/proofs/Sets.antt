@@ -1,20 +1,21 @@
 -- Laws of the sets of choices. Assumes nothing.
-use mathlib.Core.Path.{_≡_, refl, sym, _∙_}
+use mathlib.Core.Path.{_≡_, refl, sym, ap₂, _∙_}
 use mathlib.Core.Bool.{true, false}
 use mathlib.Core.List.{List}
-use Prim.Native.Nat.{ℕ, zero, suc, _+_, _-_, _*_, _/_, _%_, _^_, _≤_, _<_}
+use Prim.Native.Nat.{ℕ, zero, suc, _+_, _-_, _/_, _%_, _^_, _≤_, _<_}
 use native.Mathlib.Omega.{arith}
-use native.Mathlib.Nat.{add-zero, mod-eq-of-lt, mod-lt, zero-mod, add-mod-right, mod-add-mod}
+use native.Mathlib.Nat.{mod-eq-of-lt, mod-lt, zero-mod, add-mod-right, mod-add-mod}
 use native.Mathlib.Decide.{ℕ-discrete, decLt}
-use lib.Dec.{ltb, eqb, lit<}
+use lib.Dec.{ltb, eqb}
 use lib.ListN.{length, getD, take, drop, set, length-set}
 use lib.Seq.{getD-drop, getD-take, getD-set-same, getD-set-other}
 use borrow.Author.Tests.{lt-ltb, le-ltb, eq-eqb, ne-eqb}
-use Rattle.record.proofs.Table.{row-at}
 use Rattle.record.specs.Table.{row}
 use Rattle.component.specs.Kind.{Kind, source, sink, queue, function, fork, join, switch, merge, kindOf}
-use Rattle.netlist.specs.Netlist.{Netlist}
 use Rattle.component.specs.Row.{kindNumber, kind, mask}
+use Rattle.component.specs.Limits.{mostComponents}
+use Rattle.component.proofs.Row.{each-kind}
+use Rattle.netlist.specs.Netlist.{Netlist}
 use Rattle.cells.specs.Choices.{goodChoice, choiceAt}
 use Rattle.cells.specs.Good.{emitted, all}
 use Rattle.cells.proofs.Good.{all-at}
@@ -33,15 +34,8 @@ set-past set b h = rw (le-ltb b 9 h)
 
 -- a source's mask, below the bit of 0
 source-bit : (m d : ℕ) → d < 8 → (256 + m) / 2 ^ (7 - d) % 2 ≡ m / 2 ^ (7 - d) % 2
-source-bit m zero h = omega arith
-source-bit m (suc zero) h = omega arith
-source-bit m (suc (suc zero)) h = omega arith
-source-bit m (suc (suc (suc zero))) h = omega arith
-source-bit m (suc (suc (suc (suc zero)))) h = omega arith
-source-bit m (suc (suc (suc (suc (suc zero))))) h = omega arith
-source-bit m (suc (suc (suc (suc (suc (suc zero)))))) h = omega arith
-source-bit m (suc (suc (suc (suc (suc (suc (suc zero))))))) h = omega arith
-source-bit m (suc (suc (suc (suc (suc (suc (suc (suc d)))))))) h = absurd (omega arith)
+source-bit m d h =
+    each-kind (λ d. (256 + m) / 2 ^ (7 - d) % 2 ≡ m / 2 ^ (7 - d) % 2) (omega arith) (omega arith) (omega arith) (omega arith) (omega arith) (omega arith) (omega arith) (omega arith) d (omega arith)
 
 source-in : (row : List ℕ) (b : ℕ) → mask row < 256 → inSet (256 + mask row) b ≡ emitted row b
 source-in row zero h = set-bit (256 + mask row) 0 (omega arith) ∙ eq-eqb ((256 + mask row) / 256 % 2) 1 (omega arith)
@@ -55,15 +49,7 @@ source-in row (suc d) h = go (decLt d 8)
 
 each-byte : (P : ℕ → Type 0) → P 0 → P 1 → P 2 → P 3 → P 4 → P 5 → P 6 → P 7 → P 8 → (b : ℕ) → b < 9 → P b
 each-byte P a b c d e f g h i zero l = a
-each-byte P a b c d e f g h i (suc zero) l = b
-each-byte P a b c d e f g h i (suc (suc zero)) l = c
-each-byte P a b c d e f g h i (suc (suc (suc zero))) l = d
-each-byte P a b c d e f g h i (suc (suc (suc (suc zero)))) l = e
-each-byte P a b c d e f g h i (suc (suc (suc (suc (suc zero))))) l = f
-each-byte P a b c d e f g h i (suc (suc (suc (suc (suc (suc zero)))))) l = g
-each-byte P a b c d e f g h i (suc (suc (suc (suc (suc (suc (suc zero))))))) l = h
-each-byte P a b c d e f g h i (suc (suc (suc (suc (suc (suc (suc (suc zero)))))))) l = i
-each-byte P a b c d e f g h i (suc (suc (suc (suc (suc (suc (suc (suc (suc j))))))))) l = absurd (omega arith)
+each-byte P a b c d e f g h i (suc j) l = each-kind (λ j. P (suc j)) b c d e f g h i j (omega arith)
 
 -- a set of 0 and 1, and of 0 alone
 two-in : (b : ℕ) → inSet 384 b ≡ ltb b 2
@@ -95,22 +81,19 @@ set-good switch row b h = one-in b
 set-good merge row b h = two-in b
 
 -- a turn of `choice_sets`
-pub no-sets : (table sets : List ℕ) → length sets ≡ 128 → ChoiceSets table 0 sets
+pub no-sets : (table sets : List ℕ) → length sets ≡ mostComponents → ChoiceSets table 0 sets
 no-sets table sets l = record { long = l; at = λ k b h. absurd (omega arith) }
 
-pub more-sets : (table sets : List ℕ) (k v : ℕ) → k < 128 → getD table (24 * k + 20) 0 < 256 →
-    v ≡ choiceSet (kindOf (getD table (24 * k) 0)) (getD table (24 * k + 20) 0) → ChoiceSets table k sets → ChoiceSets table (k + 1) (set sets k v)
-more-sets table sets k v h m e z = record { long = simp length-set (z .long); at = λ i b l. go i b l (ℕ-discrete i k) }
+pub more-sets : (table sets : List ℕ) (k v : ℕ) {x m : ℕ} → k < mostComponents → m < 256 → x ≡ kindNumber (row table k) → m ≡ mask (row table k) →
+    v ≡ choiceSet (kindOf x) m → ChoiceSets table k sets → ChoiceSets table (k + 1) (set sets k v)
+more-sets table sets k v h l ex em e z = record { long = simp length-set (z .long); at = λ i b l. go i b l (ℕ-discrete i k) }
   where
     is : v ≡ choiceSet (kind (row table k)) (mask (row table k))
-    is =
-        let d : getD table (24 * k) 0 ≡ kindNumber (row table k) = rw add-zero at (sym (row-at table k 0 (lit< tt))) in
-        let f : getD table (24 * k + 20) 0 ≡ mask (row table k) = sym (row-at table k 20 (lit< tt)) in
-        rw (d, f) at e
+    is = e ∙ ap₂ (λ (n d : ℕ). choiceSet (kindOf n) d) ex em
 
     go : (i b : ℕ) → i < k + 1 → Dec (i ≡ k) → inSet (getD (set sets k v) i 0) b ≡ goodChoice (kind (row table i)) (row table i) b
-    go i b l (yes q) =
-        let f : mask (row table k) < 256 = rw (row-at table k 20 (lit< tt)) m in
+    go i b j (yes q) =
+        let f : mask (row table k) < 256 = rw (← em) l in
         rw (q, getD-set-same sets k v 0 (omega (arith, z .long)), is) (set-good (kind (row table k)) (row table k) b f)
     go i b l (no q) = rw (getD-set-other sets k i v 0 q) (z .at i b (omega (arith, q)))
 

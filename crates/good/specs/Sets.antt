@@ -8,6 +8,7 @@ use lib.ListN.{length, getD}
 use Rattle.record.specs.Table.{row}
 use Rattle.component.specs.Kind.{Kind, source, sink, queue, function, fork, join, switch, merge}
 use Rattle.component.specs.Row.{kind}
+use Rattle.component.specs.Limits.{mostComponents}
 use Rattle.cells.specs.Choices.{goodChoice}
 
 -- (24 - b % 16) % 16 is 8 - b
@@ -26,5 +27,5 @@ choiceSet merge mask = 384
 
 -- the sets of the first n components
 pub record ChoiceSets (table : List ℕ) (n : ℕ) (sets : List ℕ) : Type 0 where
-  pub long : length sets ≡ 128
+  pub long : length sets ≡ mostComponents
   pub at : (k b : ℕ) → k < n → inSet (getD sets k 0) b ≡ goodChoice (kind (row table k)) (row table k) b

@@ -53,10 +53,3 @@ pub *ℤ-assoc : (a b c : ℤ) → (a *ℤ b) *ℤ c ≡ a *ℤ (b *ℤ c)
 *ℤ-assoc (negsuc n) b c =
     ap (λ (x : ℤ). x *ℤ c) (neg-*ℤ (pos (suc n)) b) ∙ neg-*ℤ (pos (suc n) *ℤ b) c
     ∙ ap negℤ (assoc-pos (suc n) b c) ∙ sym (neg-*ℤ (pos (suc n)) (b *ℤ c))
-
--- a sum that leaves the other summand where it was is a sum with zero
-pub cancel-left : (a b c : ℤ) → a +ℤ b ≡ a +ℤ c → b ≡ c
-cancel-left a b c e = sym (unwrap a b) ∙ ap (λ (x : ℤ). negℤ a +ℤ x) e ∙ unwrap a c
-  where
-    unwrap : (a b : ℤ) → negℤ a +ℤ (a +ℤ b) ≡ b
-    unwrap a b = sym (+ℤ-assoc (negℤ a) a b) ∙ ap (λ (x : ℤ). x +ℤ b) (+ℤ-invl a) ∙ +ℤ-idl b

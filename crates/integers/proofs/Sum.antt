@@ -100,11 +100,6 @@ pub one-*ℤ : (x : ℤ) → pos 1 *ℤ x ≡ x
 unfolding one
 one-*ℤ x = *ℤ-comm (pos 1) x ∙ *ℤ-one x
 
-pub sum-same : (n a : ℕ) (x : ℕ → ℤ) → a < n → sumTo n (λ v. same a v *ℤ x v) ≡ x a
-sum-same n a x l =
-    sum-only n a (λ v. same a v *ℤ x v) l (λ j m h. ap (λ (z : ℤ). z *ℤ x j) (same-no a j (λ e. h (sym e))) ∙ zero-*ℤ (x j))
-    ∙ ap (λ (z : ℤ). z *ℤ x a) (same-yes a a refl) ∙ one-*ℤ (x a)
-
 -- ---- the other sign
 minus : (z : ℤ) → negℤ (pos 1) *ℤ z ≡ negℤ z
 minus z = neg-*ℤ (pos 1) z ∙ ap negℤ (one-*ℤ z)

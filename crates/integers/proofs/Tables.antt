@@ -9,10 +9,10 @@ use lib.ListN.{length, getD, set, length-set, replicate, length-replicate, getD-
 use lib.Seq.{getD-set-same, getD-set-other}
 use borrow.Author.Tests.{eqb-true, eqb-false}
 use lib.IntN.{ℤ, pos, negℤ, natAbs, _+ℤ_, _*ℤ_, +ℤ-idr, +ℤ-assoc, zero-*ℤ, *ℤ-zero, *ℤ-comm, *ℤ-one, one}
-use Rattle.integers.proofs.Ring.{distrib-l, neg-*ℤ}
 use Rattle.integers.specs.Sum.{sumTo, same}
-use Rattle.integers.proofs.Sum.{sum-none, sum-more}
 use Rattle.integers.specs.Tables.{Near, Grown, Summed}
+use Rattle.integers.proofs.Ring.{distrib-l, neg-*ℤ}
+use Rattle.integers.proofs.Sum.{sum-none, sum-more}
 use Rattle.integers.proofs.Near.{natAbs-add, natAbs-mul-le, natAbs-sum}
 
 module _ {L : ℕ} {s t : List ℤ} {m : ℤ} where
@@ -111,10 +111,3 @@ module _ (mult : ℕ → ℤ) (F : ℕ → ℕ → ℤ) {L : ℕ} where
 
   pub summed-near : (k B c : ℕ) {s : List ℤ} → ((j : ℕ) → natAbs (mult j) ≤ B) → ((j v : ℕ) → natAbs (F j v) ≤ c) → Summed L (λ v. sumTo k (λ j. mult j *ℤ F j v)) s → Near L (k * (B * c)) s
   summed-near k B c hm hf r = record { long = r .long; near = λ v l. omega (arith, ap natAbs (r .at v l), natAbs-sum k (B * c) (λ j. mult j *ℤ F j v) (λ j m. natAbs-mul-le (mult j) (F j v) B c (hm j) (hf j v))) }
-
--- 0 times anything
-pub grown-zero : {L : ℕ} {s : List ℤ} {m : ℤ} {f : ℕ → ℤ} → m ≡ pos 0 → length s ≡ L → Grown L s m f s
-grown-zero {L} {s} {m} {f} e l = record {
-  long = l;
-  at = λ v n. sym (ap (λ (z : ℤ). getD s v (pos 0) +ℤ z *ℤ f v) e ∙ ap (λ (z : ℤ). getD s v (pos 0) +ℤ z) (zero-*ℤ (f v)) ∙ +ℤ-idr (getD s v (pos 0)));
-}

@@ -1,10 +1,10 @@
 -- The two's complement of a signed 64-bit number, by the machine's own casts: z itself where it is not negative, else 2 ^ 64 - 1 less -1 - z.
-use mathlib.Core.Path.{_≡_, refl, sym, ap, _∙_, subst, subst⁻¹}
+use mathlib.Core.Path.{_≡_, refl, sym, ap, _∙_, subst⁻¹}
 use mathlib.Core.Bool.{Bool, true, false}
 use Prim.Native.Nat.{ℕ, zero, suc, _-_, _^_, _≤_, _<_}
 use native.Mathlib.Omega.{arith}
 use lib.Dec.{T, leb·zero}
-use lib.IntN.{ℤ, pos, negsuc, natAbs, predℤ, _+ℤ_, _-ℤ_, +ℤ-idl, predℤ-+ℤ}
+use lib.IntN.{ℤ, pos, negsuc, natAbs, predℤ, _-ℤ_, +ℤ-idl, predℤ-+ℤ}
 use lib.Signed.{leZ, nonNeg}
 use mir.Syntax.{w64}
 use mir.Val.{Fits, SFits, toZ, ofZ}

@@ -1,5 +1,5 @@
 -- The tables of sums tell the verdict, the weights and the constant. Assumes nothing.
-use mathlib.Core.Path.{_≡_, refl, sym, ap, _∙_, subst}
+use mathlib.Core.Path.{_≡_, refl, sym, ap, ap₂, _∙_}
 use mathlib.Core.Bool.{Bool, true, false, cond, not, _&&_, _||_, true≢false}
 use mathlib.Core.List.{List, [], _∷_, _++_}
 use Prim.Native.Nat.{ℕ, _+_, _*_, _/_, _%_, _≤_, _<_}
@@ -8,29 +8,28 @@ use lib.Dec.{ltb, eqb}
 use lib.ListN.{length, getD, drop}
 use lib.IntN.{ℤ, pos, _*ℤ_, zero-*ℤ, *ℤ-zero}
 use borrow.Author.Tests.{ltb-true, ltb-false, lt-ltb, le-ltb, eq-eqb, ne-eqb}
+use Rattle.digits.specs.Least.{least}
+use Rattle.digits.specs.UpTo.{upTo}
+use Rattle.digits.proofs.Least.{least-same}
+use Rattle.digits.proofs.UpTo.{upTo-cong}
 use Rattle.integers.specs.Sum.{sumTo, isZero}
 use Rattle.integers.proofs.Sum.{sum-cong, sum-only, is-zero}
-use Rattle.digits.specs.Least.{least}
-use Rattle.digits.proofs.Least.{least-same}
-use Rattle.digits.specs.UpTo.{upTo}
-use Rattle.digits.proofs.UpTo.{upTo-cong}
-use Rattle.record.specs.Table.{row}
-use Rattle.record.proofs.Table.{row-at}
-use Rattle.component.specs.Kind.{isQueue}
-use Rattle.component.specs.Row.{kind, filling, fillColour}
-use Rattle.netlist.specs.Netlist.{Netlist, rowOf}
-use Rattle.component.proofs.Kind.{row-queue}
-use Rattle.refusals.specs.Refusals.{Test, test, firstRefusal}
+use Rattle.refusals.specs.Refusals.{test, firstRefusal}
 use Rattle.refusals.specs.Room.{roomFor}
 use Rattle.refusals.specs.declared.Refusal.{Refusal}
 use Rattle.refusals.specs.declared.Refusal.the-variants.{ProposalLength, NoEquation, FlowLeft, NoWeight, ResultSpace}
 use Rattle.refusals.specs.declared.Verdict.{Verdict}
 use Rattle.refusals.specs.declared.Verdict.the-variants.{Accepted, Refused}
-use Rattle.refusals.proofs.Refusals.{andThen, refusal-append}
 use Rattle.refusals.proofs.Room.{room-last, room-accepted, room-space}
-use Rattle.flows.specs.Terms.{terms}
+use Rattle.record.specs.Table.{row}
+use Rattle.component.specs.Kind.{isQueue}
+use Rattle.component.specs.Row.{kindNumber, kind, filling, fillColour}
+use Rattle.component.proofs.ByKind.{row-queue}
+use Rattle.netlist.specs.Netlist.{Netlist, rowOf}
+use Rattle.netlist.specs.Accepted.{AcceptedNetlist}
+use Rattle.flows.specs.Terms.{terms, mostTerms}
 use Rattle.flows.specs.Flows.{flowSum, weight, entry, acceptedSum, startCount, constant}
-use Rattle.flows.specs.Verdict.{badLength, badTerm, firstBadTerm, isLeft, lowestLeft, isWeight, weightless, judgeTests, judged, judgedWithin, constantBy, tableBy, bytesBy, weightByte, ReadFabric}
+use Rattle.flows.specs.Verdict.{badLength, firstBadTerm, isLeft, lowestLeft, isWeight, weightless, judgeTests, judged, judgedWithin, constantBy, tableBy, bytesBy, weightByte}
 use Rattle.flows.proofs.Weights.{weight-other, entry-weight}
 use Rattle.sums.specs.Sums.{Added, termsVerdict}
 use Rattle.sums.proofs.Sums.{never, flows-sum, counts-sum}
@@ -53,17 +52,16 @@ zeros-more {s} {n} z e = record { zeros = λ j l. by-test j l (ltb j n) refl }
         ap not (is-zero (getD s j (pos 0)) (ap (λ (i : ℕ). getD s i (pos 0)) k ∙ e))
 
 -- ---- the constant
-module _ (t : List ℕ) (w : List ℤ) (q : ℕ) {x : ℕ} (ex : x ≡ getD t (24 * q) 0) where
-  pub share-none : (x ≡ 2 → ⊥) → pos 0 ≡ shareOf t w q
+module _ (t : List ℕ) (w : List ℤ) (q : ℕ) {x : ℕ} (ex : x ≡ kindNumber (row t q)) where
+  share-by : {b : Bool} → eqb x 2 ≡ b → cond b (getD w (8 * q + fillColour (row t q)) (pos 0) *ℤ pos (filling (row t q))) (pos 0) ≡ shareOf t w q
   unfolding shareOf
-  share-none n =
-      sym (ap (λ (b : Bool). cond b (getD w (8 * q + fillColour (row t q)) (pos 0) *ℤ pos (filling (row t q))) (pos 0)) (sym (row-queue t q ex) ∙ ne-eqb x 2 n))
+  share-by e = ap (λ (b : Bool). cond b (getD w (8 * q + fillColour (row t q)) (pos 0) *ℤ pos (filling (row t q))) (pos 0)) (sym e ∙ row-queue (row t q) ex)
 
-  pub share-is : {y z : ℕ} → x ≡ 2 → y ≡ getD t (24 * q + 22) 0 → z ≡ getD t (24 * q + 23) 0 → getD w (8 * q + z) (pos 0) *ℤ pos y ≡ shareOf t w q
-  unfolding shareOf
-  share-is {y} {z} e ey ez =
-      ap (λ (n : ℕ). getD w (8 * q + n) (pos 0) *ℤ pos y) (ez ∙ sym (row-at t q 23 (omega arith))) ∙ ap (λ (n : ℕ). getD w (8 * q + fillColour (row t q)) (pos 0) *ℤ pos n) (ey ∙ sym (row-at t q 22 (omega arith)))
-      ∙ sym (ap (λ (b : Bool). cond b (getD w (8 * q + fillColour (row t q)) (pos 0) *ℤ pos (filling (row t q))) (pos 0)) (sym (row-queue t q ex) ∙ eq-eqb x 2 e))
+  pub share-none : (x ≡ 2 → ⊥) → pos 0 ≡ shareOf t w q
+  share-none n = share-by (ne-eqb x 2 n)
+
+  pub share-is : {y z : ℕ} → x ≡ 2 → y ≡ filling (row t q) → z ≡ fillColour (row t q) → getD w (8 * q + z) (pos 0) *ℤ pos y ≡ shareOf t w q
+  share-is {y} {z} e ey ez = ap₂ (λ (c n : ℕ). getD w (8 * q + c) (pos 0) *ℤ pos n) ez ey ∙ share-by (eq-eqb x 2 e)
 
 -- ---- what the tables tell
 not-zero-if : (b : Bool) (z : ℤ) → not (isZero (cond b z (pos 0))) ≡ (b && not (isZero z))
@@ -79,14 +77,14 @@ share-other : (f : Netlist) (q : ℕ) (w : List ℤ) → isQueue (kind (rowOf f 
 unfolding shareOf
 share-other f q w e = ap (λ (b : Bool). cond b (getD w (8 * q + fillColour (rowOf f q)) (pos 0) *ℤ pos (filling (rowOf f q))) (pos 0)) e
 
-module _ (f : Netlist) (h : ReadFabric f) (p : List ℕ) {s w : List ℤ} (a : Added f p (terms p) s w) where
+module _ (f : Netlist) (h : AcceptedNetlist f) (p : List ℕ) {s w : List ℤ} (a : Added f p (terms p) s w) where
   left-is : least (notZero s) (8 * f .channels) ≡ lowestLeft f p
   unfolding isLeft
   left-is = least-same (notZero s) (isLeft f p) (8 * f .channels)
-      (λ v l. ap (λ (z : ℤ). not (isZero z)) (a .flows .at v (omega (arith, h .fewChannels)) ∙ flows-sum f p v) ∙ not-zero-if (ltb (v % 8) (f .colours)) (flowSum f p (v / 8) (v % 8)))
+      (λ v l. ap (λ (z : ℤ). not (isZero z)) (a .flows .at v (omega (arith, h .facts .fewChannels)) ∙ flows-sum f p v) ∙ not-zero-if (ltb (v % 8) (f .colours)) (flowSum f p (v / 8) (v % 8)))
 
   entry-is : (u : ℕ) → u < 8 * f .components → getD w u (pos 0) ≡ entry f p u
-  entry-is u l = a .counts .at u (omega (arith, h .fewRows)) ∙ counts-sum f p h u l
+  entry-is u l = a .counts .at u (omega (arith, h .facts .fewRows)) ∙ counts-sum f p h u l
 
   weight-is : least (notZero w) (8 * f .components) ≡ least (isWeight f p) (8 * f .components)
   unfolding isWeight
@@ -98,7 +96,7 @@ module _ (f : Netlist) (h : ReadFabric f) (p : List ℕ) {s w : List ℤ} (a : A
   -- a component's share: its weight of its fill colour, times its filling
   share-sum : (q : ℕ) → q < f .components → shareOf (f .table) w q ≡ sumTo (f .colours) (λ d. weight f p q d *ℤ pos (startCount f q d))
   share-sum q l =
-      let c : fillColour (rowOf f q) < f .colours = h .rows q l .fillColours in
+      let c : fillColour (rowOf f q) < f .colours = h .facts .rows q l .fillColours in
       share-weight c (isQueue (kind (rowOf f q))) refl
       ∙ sym (sum-only (f .colours) (fillColour (rowOf f q)) (λ d. weight f p q d *ℤ pos (startCount f q d)) c
       (λ d m n. ap (λ (b : Bool). weight f p q d *ℤ pos (cond b (filling (rowOf f q)) 0)) (ne-eqb d (fillColour (rowOf f q)) n) ∙ *ℤ-zero (weight f p q d))
@@ -106,7 +104,7 @@ module _ (f : Netlist) (h : ReadFabric f) (p : List ℕ) {s w : List ℤ} (a : A
     where
       share-weight : fillColour (rowOf f q) < f .colours → (b : Bool) → isQueue (kind (rowOf f q)) ≡ b
           → shareOf (f .table) w q ≡ weight f p q (fillColour (rowOf f q)) *ℤ pos (filling (rowOf f q))
-      share-weight c true e = share-queue f q w e ∙ ap (λ (z : ℤ). z *ℤ pos (filling (rowOf f q))) (entry-is (8 * q + fillColour (rowOf f q)) (omega (arith, h .fewColours)) ∙ entry-weight f p q (fillColour (rowOf f q)) (omega (arith, h .fewColours)) c)
+      share-weight c true e = share-queue f q w e ∙ ap (λ (z : ℤ). z *ℤ pos (filling (rowOf f q))) (entry-is (8 * q + fillColour (rowOf f q)) (omega (arith, h .facts .fewColours)) ∙ entry-weight f p q (fillColour (rowOf f q)) (omega (arith, h .facts .fewColours)) c)
       share-weight c false e = share-other f q w e ∙ sym (ap (λ (z : ℤ). z *ℤ pos (filling (rowOf f q))) (weight-other f p q (fillColour (rowOf f q)) e) ∙ zero-*ℤ (pos (filling (rowOf f q))))
 
   constant-is : sumTo (f .components) (shareOf (f .table) w) ≡ constant f p
@@ -171,7 +169,7 @@ module _ (f : Netlist) (p : List ℕ) (space : ℕ) {v : Verdict} (e : v ≡ jud
   pub within-judged : roomFor v space (8 * f .components) ≡ Accepted → judged f p ≡ Accepted
   within-judged d = sym e ∙ room-accepted v space (8 * f .components) d
 
-  pub within-constant : {k : ℤ} → k ≡ constantBy (judged f p) f p → orZero (roomFor v space (8 * f .components)) k ≡ constantBy (judgedWithin f p space) f p
+  within-constant : {k : ℤ} → k ≡ constantBy (judged f p) f p → orZero (roomFor v space (8 * f .components)) k ≡ constantBy (judgedWithin f p space) f p
   unfolding constantBy
   within-constant {k} d = go v e (ap (λ (x : Verdict). constantBy x f p) (sym e)) ∙ ap (λ (x : Verdict). constantBy x f p) within-is
     where
@@ -182,6 +180,11 @@ module _ (f : Netlist) (p : List ℕ) (space : ℕ) {v : Verdict} (e : v ≡ jud
       go : (x : Verdict) → x ≡ judged f p → constantBy (judged f p) f p ≡ constantBy x f p → orZero (roomFor x space (8 * f .components)) k ≡ constantBy (roomFor x space (8 * f .components)) f p
       go Accepted x y = kept-zero (ltb space (8 * f .components)) k (d ∙ y)
       go (Refused r) x y = refl
+
+  -- both
+  pub within-both : {u : Verdict} {k l : ℤ} → k ≡ constantBy (judged f p) f p → (u ≡ roomFor v space (8 * f .components)) × (l ≡ orZero (roomFor v space (8 * f .components)) k)
+      → (u ≡ judgedWithin f p space) × (l ≡ constantBy (judgedWithin f p space) f p)
+  within-both d q = (q .0 ∙ within-is, q .1 ∙ within-constant d)
 
 -- accepted with room: there is room
 pub within-room : (f : Netlist) (p : List ℕ) (space : ℕ) → judgedWithin f p space ≡ Accepted → 8 * f .components ≤ space
@@ -245,9 +248,9 @@ module _ (f : Netlist) (s w : List ℤ) where
 pub refused-or : (u : Verdict) (n : ℤ) {r : Refusal} {v : Verdict} {k : ℤ} → (v ≡ Refused r) × (k ≡ pos 0) → Refused r ≡ u → (v ≡ u) × (k ≡ orZero u n)
 refused-or u n e j = (e .0 ∙ j, e .1 ∙ ap (λ (x : Verdict). orZero x n) j)
 
-pub length-short : (p : List ℕ) → badLength p ≡ false → length p ≤ 16384
-length-short p e = go (not (eqb (length p % 4) 0)) (ltb 16384 (length p)) refl e
+pub length-short : (p : List ℕ) → badLength p ≡ false → length p ≤ 4 * mostTerms
+length-short p e = go (not (eqb (length p % 4) 0)) (ltb (4 * mostTerms) (length p)) refl e
   where
-    go : (a b : Bool) → ltb 16384 (length p) ≡ b → (a || b) ≡ false → length p ≤ 16384
+    go : (a b : Bool) → ltb (4 * mostTerms) (length p) ≡ b → (a || b) ≡ false → length p ≤ 4 * mostTerms
     go true b x y = absurd (true≢false y)
-    go false b x y = ltb-false 16384 (length p) (x ∙ y)
+    go false b x y = ltb-false (4 * mostTerms) (length p) (x ∙ y)

@@ -6,17 +6,18 @@ use Prim.Native.Nat.{ℕ, _+_, _*_, _-_, _<_}
 use lib.Dec.{ltb, eqb}
 use lib.ListN.{length, getD, drop}
 use lib.IntN.{ℤ, pos, _*ℤ_}
-use Rattle.integers.specs.Sum.{isZero}
 use Rattle.digits.specs.Least.{least}
 use Rattle.digits.specs.UpTo.{upTo}
-use Rattle.record.specs.Table.{row}
-use Rattle.component.specs.Kind.{isQueue}
-use Rattle.component.specs.Row.{kind, filling, fillColour}
-use Rattle.netlist.specs.Netlist.{Netlist}
+use Rattle.integers.specs.Sum.{isZero}
 use Rattle.refusals.specs.Refusals.{test, firstRefusal}
 use Rattle.refusals.specs.declared.Refusal.the-variants.{FlowLeft, NoWeight}
 use Rattle.refusals.specs.declared.Verdict.{Verdict}
 use Rattle.refusals.specs.declared.Verdict.the-variants.{Accepted, Refused}
+use Rattle.record.specs.Table.{row}
+use Rattle.component.specs.Kind.{isQueue}
+use Rattle.component.specs.Row.{kind, filling, fillColour}
+use Rattle.component.specs.Limits.{mostEntries}
+use Rattle.netlist.specs.Netlist.{Netlist}
 use Rattle.flows.specs.Flows.{entry}
 use Rattle.flows.specs.Verdict.{byteOf, bytesBy}
 
@@ -44,7 +45,7 @@ orZero (Refused r) k = pos 0
 
 -- the weights of all queues and colours
 pub record Weighed (f : Netlist) (p : List ℕ) (w : List ℤ) : Type 0 where
-  pub long : length w ≡ 1024
+  pub long : length w ≡ mostEntries
   pub at : (u : ℕ) → u < 8 * f .components → getD w u (pos 0) ≡ entry f p u
 
 -- lent bytes after a verdict, where they have room for all entries

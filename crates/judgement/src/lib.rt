@@ -1,9 +1,6 @@
 // The verdict on a proposal for a fabric that was read: the search for a flow that is left, the weights and the constant.
-use netlist::Size;
-use refusals::Refusal;
-use refusals::Verdict;
 ghost use mathlib.Core.Path.{_≡_};
-ghost use Prim.Native.Nat.{_+_, _*_, _/_, _%_, _≤_, _<_, _^_};
+ghost use Prim.Native.Nat.{_+_, _*_, _%_, _≤_, _<_, _^_};
 ghost use mathlib.Core.Bool.{not, _||_};
 ghost use mathlib.Core.List.{_++_};
 ghost use lib.Dec.{eqb, ltb};
@@ -11,23 +8,28 @@ ghost use lib.ListN.{length, getD, drop};
 ghost use lib.IntN.{pos, natAbs};
 ghost use mir.Syntax.{w64};
 ghost use mir.Val.{ofZ};
-ghost use Rattle.integers.specs.Sum.{sumTo};
-ghost use Rattle.integers.specs.Tables.{Near, Summed};
 ghost use Rattle.digits.specs.Least.{least};
 ghost use Rattle.digits.specs.UpTo.{upTo};
-ghost use Rattle.record.specs.Table.{row};
-ghost use Rattle.component.specs.Row.{fillColour};
-ghost use Rattle.netlist.specs.Netlist.{netlistOf};
+ghost use Rattle.integers.specs.Sum.{sumTo};
+ghost use Rattle.integers.specs.Tables.{Near, Summed};
 ghost use Rattle.refusals.specs.Room.{roomFor};
 ghost use Rattle.refusals.specs.declared.Verdict.the-variants.{Accepted, Refused};
-ghost use Rattle.flows.specs.Verdict.{judged, judgedWithin, constantBy, tableBy, byteOf, weightByte, ReadFabric};
+ghost use Rattle.record.specs.Table.{row};
+ghost use Rattle.record.specs.Sizes.{rowSize};
+ghost use Rattle.component.specs.Row.{fillColour};
+ghost use Rattle.component.specs.Limits.{mostComponents, mostEntries, mostFlows};
+ghost use Rattle.netlist.specs.Netlist.{netlistOf};
+ghost use Rattle.netlist.specs.Accepted.{AcceptedNetlist};
+ghost use Rattle.flows.specs.Verdict.{judged, judgedWithin, constantBy, tableBy, byteOf, weightByte};
+ghost use Rattle.flows.specs.Terms.{mostTerms};
 ghost use Rattle.judgement.specs.Judged.{notZero, shareOf, sumsVerdict, orZero, Weighed, bytesWhere, laid};
-
-fn wide(x: u8) -> usize
-    ensures { λ r. ⌜ (r ≡ x) × (r < 256) ⌝ }
-{
-    x as usize
-}
+use component::MOST_ENTRIES;
+use component::MOST_FLOWS;
+use digits::wide;
+use netlist::Size;
+use refusals::Refusal;
+use refusals::Verdict;
+use sums::MOST_TERMS;
 
 // The lowest of the first n entries that is not 0, or n.
 fn lowest(s: &[i64], n: usize) -> usize
@@ -43,24 +45,24 @@ fn lowest(s: &[i64], n: usize) -> usize
 }
 
 // One component's share of the constant.
-fn share(w: &[i64; 1024], table: &[u8], q: usize) -> i64
-    requires { ⌜ (q < 128) × (24 * q + 24 ≤ length (now table)) × (fillColour (row (now table) q) < 8) ⌝ }
-    requires { ⌜ Near 1024 (2 ^ 40) (now w) ⌝ }
+fn share(w: &[i64; MOST_ENTRIES], table: &[u8], q: usize) -> i64
+    requires { ⌜ (q < mostComponents) × (rowSize * q + rowSize ≤ length (now table)) × (fillColour (row (now table) q) < 8) ⌝ }
+    requires { ⌜ Near mostEntries (2 ^ 40) (now w) ⌝ }
     ensures { λ r. ⌜ r ≡ shareOf (now (table .entry)) (now (w .entry)) q ⌝ }
     ensures near { λ r. ⌜ natAbs r ≤ 2 ^ 48 ⌝ }
 {
-    if wide(table[24 * q]) != 2 {
+    if component::kind(table, q) != 2 {
         return 0;
     }
-    let filling = wide(table[24 * q + 22]);
-    let colour = wide(table[24 * q + 23]);
+    let filling = wide(component::filling(table, q));
+    let colour = wide(component::fill_colour(table, q));
     w[8 * q + colour] * (filling as i64)
 }
 
 // The constant K.
-fn constant_of(w: &[i64; 1024], table: &[u8], size: Size) -> i64
-    requires { ⌜ ReadFabric (netlistOf size (now table)) ⌝ }
-    requires { ⌜ Near 1024 (2 ^ 40) (now w) ⌝ }
+fn constant_of(w: &[i64; MOST_ENTRIES], table: &[u8], size: Size) -> i64
+    requires { ⌜ AcceptedNetlist (netlistOf size (now table)) ⌝ }
+    requires { ⌜ Near mostEntries (2 ^ 40) (now w) ⌝ }
     ensures { λ r. ⌜ r ≡ sumTo (size .components) (shareOf (now (table .entry)) (now (w .entry))) ⌝ }
 {
     let mut k: i64 = 0;
@@ -86,9 +88,9 @@ pub fn refused(r: Refusal) -> Judgement
 }
 
 // 13 and 14 from the sums of all terms, or the constant.
-fn judge_sums(s: &[i64; 2040], w: &[i64; 1024], table: &[u8], size: Size) -> Judgement
-    requires { ⌜ ReadFabric (netlistOf size (now table)) ⌝ }
-    requires { ⌜ (length (now s) ≡ 2040) × Near 1024 (2 ^ 40) (now w) ⌝ }
+fn judge_sums(s: &[i64; MOST_FLOWS], w: &[i64; MOST_ENTRIES], table: &[u8], size: Size) -> Judgement
+    requires { ⌜ AcceptedNetlist (netlistOf size (now table)) ⌝ }
+    requires { ⌜ (length (now s) ≡ mostFlows) × Near mostEntries (2 ^ 40) (now w) ⌝ }
     ensures { λ r. ⌜ (r .verdict ≡ sumsVerdict (netlistOf size (now (table .entry))) (now (s .entry)) (now (w .entry)))
         × (r .constant ≡ orZero (sumsVerdict (netlistOf size (now (table .entry))) (now (s .entry)) (now (w .entry))) (sumTo (size .components) (shareOf (now (table .entry)) (now (w .entry))))) ⌝ }
 {
@@ -109,15 +111,15 @@ fn judge_sums(s: &[i64; 2040], w: &[i64; 1024], table: &[u8], size: Size) -> Jud
 
 // 11 proposal length no multiple of 4, or over 16,384.
 fn bad_length(n: usize) -> bool
-    ensures { λ r. ⌜ r ≡ (not (eqb (n % 4) 0) || ltb 16384 n) ⌝ }
+    ensures { λ r. ⌜ r ≡ (not (eqb (n % 4) 0) || ltb (4 * mostTerms) n) ⌝ }
 {
-    (n % 4 != 0) | (16384 < n)
+    (n % 4 != 0) | (4 * MOST_TERMS < n)
 }
 
 // The verdict on a proposal, and its weights in memory that comes in as zeros.
-pub fn weigh(table: &[u8], size: Size, proposal: &[u8], w: &mut [i64; 1024]) -> Judgement
-    requires { ⌜ ReadFabric (netlistOf size (now table)) ⌝ }
-    requires { ⌜ Summed 1024 (λ u. pos 0) (now w) ⌝ }
+pub fn weigh(table: &[u8], size: Size, proposal: &[u8], w: &mut [i64; MOST_ENTRIES]) -> Judgement
+    requires { ⌜ AcceptedNetlist (netlistOf size (now table)) ⌝ }
+    requires { ⌜ Summed mostEntries (λ u. pos 0) (now w) ⌝ }
     ensures verdict { λ r. ⌜ (r .verdict ≡ judged (netlistOf size (now (table .entry))) (now (proposal .entry)))
         × (r .constant ≡ constantBy (judged (netlistOf size (now (table .entry))) (now (proposal .entry))) (netlistOf size (now (table .entry))) (now (proposal .entry))) ⌝ }
     ensures weights { λ r. ⌜ (judged (netlistOf size (now (table .entry))) (now (proposal .entry)) ≡ Accepted → Weighed (netlistOf size (now (table .entry))) (now (proposal .entry)) (now (w .exit))) ⌝ }
@@ -125,7 +127,7 @@ pub fn weigh(table: &[u8], size: Size, proposal: &[u8], w: &mut [i64; 1024]) -> 
     if bad_length(proposal.len()) {
         return refused(Refusal::ProposalLength);
     }
-    let mut s = [0i64; 2040];
+    let mut s = [0i64; MOST_FLOWS];
     let named = sums::add_terms(&mut s, w, table, size, proposal);
     match named {
         Verdict::Refused(r) => refused(r),
@@ -147,12 +149,12 @@ fn with_room(j: Judgement, space: usize, need: usize) -> Judgement
 
 // The judgement with room for as many entries as a lent table has; the weights go into it.
 pub fn judge(table: &[u8], size: Size, proposal: &[u8], weights: &mut [i64]) -> Judgement
-    requires { ⌜ ReadFabric (netlistOf size (now table)) ⌝ }
+    requires { ⌜ AcceptedNetlist (netlistOf size (now table)) ⌝ }
     ensures { λ r. ⌜ (r .verdict ≡ judgedWithin (netlistOf size (now (table .entry))) (now (proposal .entry)) (length (now (weights .entry))))
         × (r .constant ≡ constantBy (judgedWithin (netlistOf size (now (table .entry))) (now (proposal .entry)) (length (now (weights .entry)))) (netlistOf size (now (table .entry))) (now (proposal .entry)))
         × (now (weights .exit) ≡ tableBy (judgedWithin (netlistOf size (now (table .entry))) (now (proposal .entry)) (length (now (weights .entry)))) (netlistOf size (now (table .entry))) (now (proposal .entry)) (now (weights .entry))) ⌝ }
 {
-    let mut w = [0i64; 1024];
+    let mut w = [0i64; MOST_ENTRIES];
     let j = weigh(table, size, proposal, &mut w);
     let n = 8 * size.components;
     let judged = with_room(j, weights.len(), n);
@@ -174,12 +176,12 @@ pub fn judge_bytes(
     space: usize,
     out: &mut [u8],
 ) -> Judgement
-    requires { ⌜ ReadFabric (netlistOf size (now table)) ⌝ }
+    requires { ⌜ AcceptedNetlist (netlistOf size (now table)) ⌝ }
     ensures { λ r. ⌜ (r .verdict ≡ judgedWithin (netlistOf size (now (table .entry))) (now (proposal .entry)) space)
         × (r .constant ≡ constantBy (judgedWithin (netlistOf size (now (table .entry))) (now (proposal .entry)) space) (netlistOf size (now (table .entry))) (now (proposal .entry)))
         × (now (out .exit) ≡ bytesWhere (judgedWithin (netlistOf size (now (table .entry))) (now (proposal .entry)) space) (netlistOf size (now (table .entry))) (now (proposal .entry)) (now (out .entry))) ⌝ }
 {
-    let mut w = [0i64; 1024];
+    let mut w = [0i64; MOST_ENTRIES];
     let j = weigh(table, size, proposal, &mut w);
     let n = 8 * size.components;
     let judged = with_room(j, space, n);
@@ -197,8 +199,8 @@ pub fn judge_bytes(
 }
 
 // The first n entries into a lent table.
-fn write_entries(out: &mut [i64], w: &[i64; 1024], n: usize)
-    requires { ⌜ (n ≤ 1024) × (n ≤ length (now out)) ⌝ }
+fn write_entries(out: &mut [i64], w: &[i64; MOST_ENTRIES], n: usize)
+    requires { ⌜ (n ≤ mostEntries) × (n ≤ length (now out)) ⌝ }
     ensures { λ _. ⌜ now (out .exit) ≡ upTo n (λ u. getD (now (w .entry)) u (pos 0)) ++ drop n (now (out .entry)) ⌝ }
 {
     for u in 0..n {
@@ -227,7 +229,7 @@ fn byte_of(v: i64, i: usize) -> u8
 
 // Entry u as 8 bytes, lowest first.
 fn write_entry(out: &mut [u8], u: usize, v: i64)
-    requires { ⌜ (u < 1024) × (8 * u + 8 ≤ length (now out)) ⌝ }
+    requires { ⌜ (u < mostEntries) × (8 * u + 8 ≤ length (now out)) ⌝ }
     ensures { λ _. ⌜ now (out .exit) ≡ laid (now (out .entry)) u v ⌝ }
 {
     for i in 0..8 {
@@ -236,8 +238,8 @@ fn write_entry(out: &mut [u8], u: usize, v: i64)
 }
 
 // The first n weights as bytes, 8 for each, lowest first.
-fn write_bytes(out: &mut [u8], w: &[i64; 1024], n: usize)
-    requires { ⌜ (n ≤ 1024) × (8 * n ≤ length (now out)) ⌝ }
+fn write_bytes(out: &mut [u8], w: &[i64; MOST_ENTRIES], n: usize)
+    requires { ⌜ (n ≤ mostEntries) × (8 * n ≤ length (now out)) ⌝ }
     ensures { λ _. ⌜ now (out .exit) ≡ upTo (8 * n) (weightByte (λ u. getD (now (w .entry)) u (pos 0))) ++ drop (8 * n) (now (out .entry)) ⌝ }
 {
     for u in 0..n {

@@ -4,9 +4,9 @@ ghost use Prim.Native.Nat.{_/_};
 ghost use lib.ListN.{length};
 ghost use Rattle.refusals.specs.Refusals.{numberOf, placeOf};
 ghost use Rattle.reader.specs.Reading.{verdictOf, coloursOf, channelsOf};
+ghost use Rattle.fabric.specs.Calls.{unpacked, unpackedTable, packed, packedInto};
 ghost use Rattle.stepping.specs.Calls.{startVerdict, stateAfterStart, stepVerdict, stateAfterStep, movesAfterStep, runVerdict, stateAfterRun};
 ghost use Rattle.checking.specs.Check.{checkVerdict, checkConstant, bytesAfterCheck};
-ghost use Rattle.fabric.specs.Calls.{unpacked, unpackedTable, packed, packedInto};
 
 #[no_mangle]
 pub extern "C" fn fabric_unpack(file: &[u8], table: &mut [u8]) -> u32

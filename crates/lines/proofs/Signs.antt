@@ -2,7 +2,7 @@
 use mathlib.Core.Path.{_≡_, refl, sym, ap, _∙_, subst}
 use mathlib.Core.Bool.{true, false}
 use mathlib.Core.List.{List, [], _∷_, _++_}
-use Prim.Native.Nat.{ℕ, _+_, _≤_}
+use Prim.Native.Nat.{ℕ, _+_}
 use native.Mathlib.Omega.{arith}
 use lib.Dec.{leb·zero}
 use lib.IntN.{ℤ, pos, negsuc, natAbs, _-ℤ_}
@@ -10,10 +10,10 @@ use lib.Signed.{leZ}
 use mir.Syntax.{w64}
 use mir.Val.{Fits, SFits, toZ, ofZ}
 use mir.ValLaws.{toZ-ofZ}
+use Rattle.integers.proofs.Twos.{down-low, down-bits}
 use Rattle.lines.specs.Decimal.{decimal}
 use Rattle.lines.specs.Listing.{textField}
 use Rattle.lines.specs.Put.{Put}
-use Rattle.integers.proofs.Twos.{down-low, down-bits}
 
 -- a number that is not negative is not below 0
 not-below : {X : Type 0} (n : ℕ) → SFits w64 (pos n) → leZ (pos 0) (toZ w64 (ofZ w64 (pos n))) ≡ false → X

@@ -10,6 +10,8 @@ use lib.IntN.{ℤ, pos}
 use mir.Syntax.{w64}
 use mir.Val.{SFits, toZ, ofZ}
 use mir.ValLaws.{toZ-ofZ}
+use Rattle.digits.specs.UpTo.{upTo}
+use Rattle.digits.proofs.UpTo.{length-upTo, filled-at}
 use Rattle.refusals.specs.Refusals.{refusalNumber, refusalPlace}
 use Rattle.refusals.specs.declared.Refusal.{Refusal}
 use Rattle.refusals.specs.declared.Verdict.{Verdict}
@@ -17,13 +19,11 @@ use Rattle.refusals.specs.declared.Verdict.the-variants.{Accepted, Refused}
 use Rattle.netlist.specs.declared.Size.{Size}
 use Rattle.reader.specs.Reading.{reading}
 use Rattle.reader.specs.declared.Reading.the-variants.{Fabric}
-use Rattle.reader.proofs.Exists.{accepted-exists}
-use Rattle.flows.specs.Flows.{entry}
-use Rattle.digits.specs.UpTo.{upTo}
-use Rattle.digits.proofs.UpTo.{length-upTo, filled-at}
-use Rattle.flows.specs.Verdict.{tableBy}
 use Rattle.reader.specs.File.{netlistIn}
+use Rattle.reader.proofs.Exists.{accepted-exists}
 use Rattle.reader.proofs.Opened.{netlist-is}
+use Rattle.flows.specs.Flows.{entry}
+use Rattle.flows.specs.Verdict.{tableBy}
 use Rattle.checking.specs.Check.{checkVerdict, checkConstant, weightsAfterCheck}
 use Rattle.lines.specs.Listing.{weightLines, sumLine, refusalLine, room, textBy, listingOf, listing}
 use Rattle.lines.specs.Put.{Put}

@@ -8,8 +8,8 @@ use Rattle.integers.specs.Sum.{isZero}
 use Rattle.refusals.specs.Refusals.{refusalNumber, refusalPlace}
 use Rattle.refusals.specs.declared.Verdict.{Verdict}
 use Rattle.refusals.specs.declared.Verdict.the-variants.{Accepted, Refused}
-use Rattle.flows.specs.Flows.{entry}
 use Rattle.reader.specs.File.{netlistIn}
+use Rattle.flows.specs.Flows.{entry}
 use Rattle.checking.specs.Check.{checkVerdict, checkConstant}
 use Rattle.lines.specs.Decimal.{integer}
 

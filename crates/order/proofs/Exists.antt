@@ -8,7 +8,7 @@ use native.Mathlib.Decide.{decLt}
 use native.Mathlib.Nat.{eq-or-lt-of-le, le-of-suc-le-suc}
 use native.Mathlib.Omega.{arith}
 use lib.ListN.{length, getD, set, replicate, length-set, length-replicate}
-use Rattle.order.specs.Graph.{dep, walks, hasCircle, Sorted}
+use Rattle.order.specs.Graph.{dep, walks, hasCircle, Sorted, mostSignals}
 use Rattle.order.specs.Places.{SoundPlaces}
 use Rattle.order.specs.Zeros.{zeros}
 use Rattle.order.proofs.Graph.{any-has, walks-zero, walks-suc}
@@ -96,7 +96,7 @@ module _ (T : List ℕ) (n : ℕ) where
             (put-good g s b e (λ j hj hd. ready j hj (omega arith)))
 
 -- where a table's dependences hold no circle there is a good order
-pub order-exists : (T : List ℕ) (n : ℕ) → 4 * n ≤ length T → n ≤ 510 → hasCircle (dep T) n ≡ false → (O : List ℕ) × Sorted (dep T) n O
+pub order-exists : (T : List ℕ) (n : ℕ) → 4 * n ≤ length T → n ≤ mostSignals → hasCircle (dep T) n ≡ false → (O : List ℕ) × Sorted (dep T) n O
 order-exists T n t h none =
     let len = length-replicate {A = ℕ} n 0 in
     grow T n none n (replicate n 0) (replicate n 0) 0 (zeros-replicate n) len (good-none T (replicate n 0) n t (omega arith) h)
@@ -114,7 +114,7 @@ listed f (suc m) = go (listed (λ i. f (suc i)) m)
         here (suc i) h = at i (omega arith)
 
 -- so there is a good order for any account of the dependences
-pub sorted-exists : (D : ℕ → ℕ → ℕ) (n : ℕ) → n ≤ 510 → hasCircle D n ≡ false → (O : List ℕ) × Sorted D n O
+pub sorted-exists : (D : ℕ → ℕ → ℕ) (n : ℕ) → n ≤ mostSignals → hasCircle D n ≡ false → (O : List ℕ) × Sorted D n O
 sorted-exists D n h none = go (listed (λ q. D (q / 4) (q % 4)) (4 * n))
   where
     go : (T : List ℕ) × (length T ≡ 4 * n) × ((q : ℕ) → q < 4 * n → getD T q 0 ≡ D (q / 4) (q % 4)) → (O : List ℕ) × Sorted D n O

@@ -7,13 +7,13 @@ use native.Mathlib.Decide.{decLt, ℕ-discrete}
 use native.Mathlib.Omega.{arith}
 use lib.ListN.{length, getD, set, replicate, length-set, length-replicate}
 use lib.Seq.{getD-set-same, getD-set-other}
-use Rattle.order.specs.Graph.{dep, Depends, walks, hasCircle, Sorted}
+use Rattle.order.specs.Graph.{dep, Depends, walks, hasCircle, Sorted, mostSignals}
 use Rattle.order.specs.Places.{SoundPlaces, Kept}
 use Rattle.order.proofs.Graph.{any-some, walks-next}
 use Rattle.order.proofs.Zeros.{zeros-set, zeros-all, zeros-replicate, getD-zeros}
 
 -- nothing is in the order yet
-pub good-none : (D O : List ℕ) (n : ℕ) → 4 * n ≤ length D → n ≤ length O → n ≤ 510 → SoundPlaces D (replicate n 0) O 0
+pub good-none : (D O : List ℕ) (n : ℕ) → 4 * n ≤ length D → n ≤ length O → n ≤ mostSignals → SoundPlaces D (replicate n 0) O 0
 good-none D O n t l h =
     let len = length-replicate {A = ℕ} n 0 in
     let z = getD-zeros n in

@@ -7,6 +7,10 @@ use Prim.Native.Nat.{ℕ, zero, suc, _+_, _*_, _<_}
 use lib.Dec.{ltb}
 use lib.ListN.{getD}
 
+-- so many signals there are at most, two a channel; the code's constant stands in src/lib.rt
+abbrev pub mostSignals : ℕ
+mostSignals = 510
+
 -- the dependences that a table of four entries a signal holds
 abbrev pub dep : List ℕ → ℕ → ℕ → ℕ
 dep T s k = getD T (4 * s + k) 0

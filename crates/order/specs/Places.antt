@@ -4,7 +4,7 @@ use mathlib.Core.List.{List}
 use mathlib.Core.Bool.{true, false}
 use Prim.Native.Nat.{ℕ, _+_, _*_, _<_, _≤_}
 use lib.ListN.{length, getD}
-use Rattle.order.specs.Graph.{dep, walks, hasCircle, Sorted}
+use Rattle.order.specs.Graph.{dep, walks, hasCircle, Sorted, mostSignals}
 use Rattle.order.specs.Zeros.{zeros}
 use Rattle.order.specs.declared.Walk.{Walk}
 use Rattle.order.specs.declared.Walk.the-variants.{Circle, Extended}
@@ -14,7 +14,7 @@ use Rattle.order.specs.declared.Walk.the-variants.{Circle, Extended}
 pub record SoundPlaces (D P O : List ℕ) (c : ℕ) : Type 0 where
   pub table : 4 * length P ≤ length D
   pub fits : length P ≤ length O
-  pub short : length P ≤ 510
+  pub short : length P ≤ mostSignals
   pub full : zeros P + c ≡ length P
   pub back : (s p : ℕ) → getD P s 0 ≡ p + 1 → (p < c) × (getD O p 0 ≡ s)
   pub fwd : (p : ℕ) → p < c → (getD O p 0 < length P) × (getD P (getD O p 0) 0 ≡ p + 1)

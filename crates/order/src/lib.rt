@@ -3,8 +3,11 @@
 ghost use mathlib.Core.Path.{_≡_};
 ghost use Prim.Native.Nat.{_+_, _*_, _≤_, _<_};
 ghost use lib.ListN.{length, set};
-ghost use Rattle.order.specs.Graph.{dep, OrderOf};
+ghost use Rattle.order.specs.Graph.{dep, OrderOf, mostSignals};
 ghost use Rattle.order.specs.Places.{SoundPlaces, Fresh, visited, ordered};
+
+// So many signals there are at most, two a channel.
+pub const MOST_SIGNALS: usize = 510;
 
 // What a visit finds: a circle, or how many signals the order now has.
 enum Walk {
@@ -12,15 +15,15 @@ enum Walk {
     Extended(u16),
 }
 
-fn wide(n: u16) -> usize
+pub fn wide(n: u16) -> usize
     ensures { λ r. ⌜ r ≡ n ⌝ }
 {
     n as usize
 }
 
 // Puts s at place c of the order, and returns the order's new count.
-fn put(s: usize, place: &mut [u16], order: &mut [u16; 510], c: u16) -> u16
-    requires { ⌜ (s < length (now place)) × (length (now place) ≤ 510) × (c < 510) ⌝ }
+fn put(s: usize, place: &mut [u16], order: &mut [u16; MOST_SIGNALS], c: u16) -> u16
+    requires { ⌜ (s < length (now place)) × (length (now place) ≤ mostSignals) × (c < mostSignals) ⌝ }
     ensures { λ r. ⌜ (r ≡ c + 1) × (now (place .exit) ≡ set (now (place .entry)) s (c + 1)) × (now (order .exit) ≡ set (now (order .entry)) c s) ⌝ }
 {
     order[c as usize] = s as u16;
@@ -31,11 +34,11 @@ fn put(s: usize, place: &mut [u16], order: &mut [u16; 510], c: u16) -> u16
 // Puts s, which is not in the order yet, and all that it depends on into the order, or finds a walk of `depth` dependences from s.
 // place[s] is 0 while s is not in the order, and then 1 + its place there. An entry that is none, or in the order, is passed over.
 fn visit(
-    deps: &[u16; 2040],
+    deps: &[u16; 4 * MOST_SIGNALS],
     s: usize,
     depth: usize,
     place: &mut [u16],
-    order: &mut [u16; 510],
+    order: &mut [u16; MOST_SIGNALS],
     count: u16,
 ) -> Walk
     requires { ⌜ Fresh (now deps) s (now place) (now order) count ⌝ }
@@ -66,7 +69,11 @@ fn visit(
 }
 
 // Visits all signals, of which there are as many as places, that are not in the order yet.
-fn visit_all(deps: &[u16; 2040], place: &mut [u16], order: &mut [u16; 510]) -> Walk
+fn visit_all(
+    deps: &[u16; 4 * MOST_SIGNALS],
+    place: &mut [u16],
+    order: &mut [u16; MOST_SIGNALS],
+) -> Walk
     requires { ⌜ SoundPlaces (now deps) (now place) (now order) 0 ⌝ }
     ensures { λ r. ⌜ ordered (now (deps .entry)) (length (now (place .entry))) (now (order .exit)) r ⌝ }
 {
@@ -89,11 +96,11 @@ fn visit_all(deps: &[u16; 2040], place: &mut [u16], order: &mut [u16; 510]) -> W
 }
 
 // Puts the n signals of a table into the order, and says whether the table holds a circle.
-pub fn order_of(deps: &[u16; 2040], n: usize, order: &mut [u16; 510]) -> bool
-    requires { ⌜ (n ≤ 510) × (4 * n ≤ length (now deps)) × (n ≤ length (now order)) ⌝ }
+pub fn order_of(deps: &[u16; 4 * MOST_SIGNALS], n: usize, order: &mut [u16; MOST_SIGNALS]) -> bool
+    requires { ⌜ (n ≤ mostSignals) × (4 * n ≤ length (now deps)) × (n ≤ length (now order)) ⌝ }
     ensures { λ r. ⌜ OrderOf (dep (now (deps .entry))) n r (now (order .exit)) ⌝ }
 {
-    let mut place = [0u16; 510];
+    let mut place = [0u16; MOST_SIGNALS];
     match visit_all(deps, &mut place[..n], order) {
         Walk::Circle => true,
         Walk::Extended(_c) => false,

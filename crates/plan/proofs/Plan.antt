@@ -8,16 +8,10 @@ use lib.ListN.{length, getD, set, drop, List·getD-eq-default}
 use lib.Dec.{lit<}
 use Rattle.digits.specs.UpTo.{upTo}
 use Rattle.digits.proofs.UpTo.{filled-none, filled-more, length-filled, filled-at}
-use Rattle.record.specs.Table.{row}
-use Rattle.record.proofs.Table.{row-at}
-use Rattle.component.specs.Row.{kindNumber}
-use Rattle.netlist.specs.Netlist.{Netlist, rowOf}
 use Rattle.wiring.specs.Signals.{endOf}
+use Rattle.netlist.specs.Netlist.{Netlist, rowOf}
 use Rattle.netlist.specs.Accepted.{AcceptedFabric}
 use Rattle.plan.specs.Plan.{fieldAt, planField, placed, planned, Planned}
-
-pub row-kind : (t : List ℕ) (k : ℕ) → kindNumber (row t k) ≡ getD t (24 * k) 0
-row-kind t k = let e : 24 * k + 0 ≡ 24 * k = omega arith in row-at t k 0 (lit< tt) ∙ ap (λ (i : ℕ). getD t i 0) e
 
 -- number j of place i
 pub planned-at : (f : Netlist) (order : List ℕ) (i j : ℕ) → j < 6 → planned f order (6 * i + j) ≡ planField f (getD order i 0) j
@@ -35,7 +29,19 @@ placed-filled g k s n h e =
     let turn : (j m : ℕ) → m ≡ n + j → j < 6 → set (upTo m g ++ drop m s) m (k j) ≡ upTo (m + 1) g ++ drop (m + 1) s =
     λ j m q l. ap (set (upTo m g ++ drop m s) m) (e j l ∙ ap g (sym q)) ∙ filled-more g s 0 m (omega arith) in
     let next : (m i : ℕ) → m ≡ i → upTo m g ++ drop m s ≡ upTo i g ++ drop i s = λ m i q. ap (λ (x : ℕ). upTo x g ++ drop x s) q in
-    rw (turn 0 n (omega arith) (lit< tt), turn 1 (n + 1) (omega arith) (lit< tt), next (n + 1 + 1) (n + 2) (omega arith), turn 2 (n + 2) (omega arith) (lit< tt), next (n + 2 + 1) (n + 3) (omega arith), turn 3 (n + 3) (omega arith) (lit< tt), next (n + 3 + 1) (n + 4) (omega arith), turn 4 (n + 4) (omega arith) (lit< tt), next (n + 4 + 1) (n + 5) (omega arith), turn 5 (n + 5) (omega arith) (lit< tt), next (n + 5 + 1) (n + 6) (omega arith))
+    rw (
+      turn 0 n (omega arith) (lit< tt),
+      turn 1 (n + 1) (omega arith) (lit< tt),
+      next (n + 1 + 1) (n + 2) (omega arith),
+      turn 2 (n + 2) (omega arith) (lit< tt),
+      next (n + 2 + 1) (n + 3) (omega arith),
+      turn 3 (n + 3) (omega arith) (lit< tt),
+      next (n + 3 + 1) (n + 4) (omega arith),
+      turn 4 (n + 4) (omega arith) (lit< tt),
+      next (n + 4 + 1) (n + 5) (omega arith),
+      turn 5 (n + 5) (omega arith) (lit< tt),
+      next (n + 5 + 1) (n + 6) (omega arith),
+    )
 
 -- the first i places are laid down
 pub record Laid (f : Netlist) (order before now : List ℕ) (i : ℕ) : Type 0 where

@@ -5,8 +5,8 @@ use Prim.Native.Nat.{ℕ, zero, suc, _+_, _*_, _/_, _%_, _≤_, _<_}
 use lib.ListN.{length, getD, set}
 use Rattle.component.specs.Kind.{A, B, C}
 use Rattle.component.specs.Row.{kindNumber, port}
-use Rattle.netlist.specs.Netlist.{Netlist, rowOf}
 use Rattle.wiring.specs.Signals.{endOf}
+use Rattle.netlist.specs.Netlist.{Netlist, rowOf}
 use Rattle.netlist.specs.Accepted.{AcceptedFabric}
 
 -- of signal s, given by end e of a component with this row: the number of its rule, which is 3 times the kind plus the port, s,

@@ -1,19 +1,21 @@
 -- What an accepted file gives. Assumes nothing.
 use mathlib.Core.Path.{_≡_, ap, sym, _∙_}
-use Prim.Native.Nat.{ℕ, _+_, _*_, _≤_}
+use Prim.Native.Nat.{ℕ, _≤_}
 use native.Mathlib.Omega.{arith}
 use mathlib.Core.List.{List}
 use lib.ListN.{length}
 use lib.Dec.{ltb}
-use Rattle.record.specs.Table.{openTable}
-use Rattle.netlist.specs.declared.Size.{Size}
 use Rattle.refusals.specs.Refusals.{firstRefusal}
-use Rattle.reader.specs.File.{headerFields, coloursIn, channelsIn, componentsIn, sizeIn, headerTests, recordTests, fileTests}
-use Rattle.reader.specs.Reading.{reading}
 use Rattle.refusals.specs.declared.Refusal.the-variants.{FileShort}
 use Rattle.refusals.specs.declared.Verdict.the-variants.{Accepted}
-use Rattle.reader.specs.declared.Reading.the-variants.{Fabric}
 use Rattle.refusals.proofs.Refusals.{refusal-append, cond-accepted, then-accepted}
+use Rattle.record.specs.Table.{openTable}
+use Rattle.record.specs.Sizes.{fileSize}
+use Rattle.component.specs.Limits.{mostComponents}
+use Rattle.netlist.specs.declared.Size.{Size}
+use Rattle.reader.specs.File.{headerFields, coloursIn, channelsIn, componentsIn, sizeIn, headerTests, recordTests, fileTests}
+use Rattle.reader.specs.Reading.{reading}
+use Rattle.reader.specs.declared.Reading.the-variants.{Fabric}
 use Rattle.reader.proofs.Facts.{read-fabric, HeaderFacts, header-facts}
 
 module _ (file : List ℕ) {s : Size} (e : reading file ≡ Fabric s) where
@@ -42,5 +44,5 @@ module _ (file : List ℕ) {s : Size} (e : reading file ≡ Fabric s) where
   pub accepted-records : firstRefusal (recordTests (s .colours) (s .channels) file (openTable file (s .components)) (s .components)) ≡ Accepted
   accepted-records = rw (← accepted-parts .1) (rest .1)
 
-  pub accepted-long : (length file ≡ 4 + 13 * s .components) × (s .components ≤ 128)
+  pub accepted-long : (length file ≡ fileSize (s .components)) × (s .components ≤ mostComponents)
   accepted-long = let n = accepted-size .2 in (omega (arith, n, accepted-header .long), omega (arith, n, accepted-header .fewRows))

@@ -9,23 +9,24 @@ use lib.Dec.{ltb}
 use borrow.Author.Tests.{eq-eqb, ne-eqb, ltb-false}
 use Rattle.order.specs.Graph.{hasCircle}
 use Rattle.order.proofs.Exists.{listed, sorted-exists}
-use Rattle.record.specs.Table.{row, openTable}
-use Rattle.record.proofs.Table.{length-rows}
-use Rattle.netlist.specs.Netlist.{netlistOf}
-use Rattle.netlist.specs.declared.Size.{Size}
-use Rattle.component.proofs.Facts.{row-facts}
-use Rattle.wiring.specs.Ends.{isEnd, firstUnmatched}
-use Rattle.wiring.specs.Ports.{found}
-use Rattle.wiring.specs.Signals.{gives, dependence}
-use Rattle.wiring.specs.Stages.{signalAt, FoundEnds}
-use Rattle.wiring.proofs.Ends.{all-ends}
 use Rattle.refusals.specs.Refusals.{firstRefusal}
 use Rattle.refusals.specs.declared.Refusal.the-variants.{ChannelEnds, Circle}
 use Rattle.refusals.specs.declared.Verdict.the-variants.{Accepted}
 use Rattle.refusals.proofs.Refusals.{cond-accepted}
+use Rattle.record.specs.Table.{row, openTable}
+use Rattle.record.proofs.Table.{length-rows}
+use Rattle.component.specs.Limits.{mostChannels, mostColours, mostComponents}
+use Rattle.component.proofs.Facts.{row-facts}
+use Rattle.wiring.specs.Ends.{isEnd, firstUnmatched}
+use Rattle.wiring.specs.Ports.{found}
+use Rattle.wiring.specs.Signals.{gives, dependence}
+use Rattle.wiring.specs.Stages.{signalAt, FoundEnds, endsSize}
+use Rattle.wiring.proofs.Ends.{all-ends}
+use Rattle.netlist.specs.Netlist.{netlistOf}
+use Rattle.netlist.specs.declared.Size.{Size}
+use Rattle.netlist.specs.Accepted.{AcceptedFabric}
 use Rattle.reader.specs.File.{headerFields, coloursIn, channelsIn, componentsIn, wireTests}
 use Rattle.reader.specs.Reading.{reading}
-use Rattle.netlist.specs.Accepted.{AcceptedFabric}
 use Rattle.reader.specs.declared.Reading.the-variants.{Fabric}
 use Rattle.reader.proofs.Tests.{colours-lt, channels-lt}
 use Rattle.reader.proofs.Facts.{mask-byte, good-records, records-accepted}
@@ -42,13 +43,13 @@ gives-at table false x e =
 
 -- there is a list of the ends that are found
 ends-exist : (table : List ℕ) (e : ℕ) → (ends : List ℕ) × FoundEnds table e ends
-ends-exist table e = go (listed (λ s. found (gives table s) e) 513)
+ends-exist table e = go (listed (λ s. found (gives table s) e) endsSize)
   where
-    below : (side : Bool) (x : ℕ) → x < 256 → signalAt side x < 513
+    below : (side : Bool) (x : ℕ) → x < 256 → signalAt side x < endsSize
     below true x h = omega arith
     below false x h = omega arith
 
-    go : (l : List ℕ) × (length l ≡ 513) × ((s : ℕ) → s < 513 → getD l s 0 ≡ found (gives table s) e) → (ends : List ℕ) × FoundEnds table e ends
+    go : (l : List ℕ) × (length l ≡ endsSize) × ((s : ℕ) → s < endsSize → getD l s 0 ≡ found (gives table s) e) → (ends : List ℕ) × FoundEnds table e ends
     go (l, n, at) = (l, record { long = n; at = λ side x h. at (signalAt side x) (below side x h) ∙ gives-at table side x e })
 
 -- the tests of an accepted table's channels
@@ -73,10 +74,10 @@ accepted-exists file s e =
     let ca = colours-lt file in
     let cb = channels-lt file in
     let someColours : 0 < C = omega arith in
-    let fewColours : C ≤ 8 = omega arith in
+    let fewColours : C ≤ mostColours = omega arith in
     let someChannels : 0 < M = omega (arith, f .someChannels) in
-    let fewChannels : M ≤ 255 = omega arith in
-    let fewRows : N ≤ 128 = omega (arith, f .fewRows) in
+    let fewChannels : M ≤ mostChannels = omega arith in
+    let fewRows : N ≤ mostComponents = omega (arith, f .fewRows) in
     let ends = ends-exist (openTable file N) (3 * N) in
     let order = sorted-exists (dependence (openTable file N) N) (2 * M) (omega arith) (w .1) in (
       ends .0,

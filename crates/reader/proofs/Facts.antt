@@ -1,40 +1,43 @@
 -- What a file that passed its tests gives. Assumes nothing.
 use mathlib.Core.Path.{_≡_, refl, ap, ap₂, sym, subst, _∙_}
-use Prim.Native.Nat.{ℕ, _+_, _*_, _%_, _≤_, _<_}
+use Prim.Native.Nat.{ℕ, _*_, _%_, _≤_, _<_}
 use native.Mathlib.Nat.{mod-lt}
 use lib.Pow.{pow-pos}
 use native.Mathlib.Omega.{arith}
-use mathlib.Core.Bool.{Bool, true, false, cond, not, _||_, true≢false}
+use mathlib.Core.Bool.{Bool, true, cond, not, _||_}
 use mathlib.Core.List.{List, _++_}
 use lib.ListN.{length, getD, take, drop}
 use lib.Seq.{take-at}
 use lib.Dec.{ltb, eqb}
-use borrow.Author.Tests.{eq-eqb, lt-ltb, le-ltb, eqb-true, not-false, ltb-false}
+use borrow.Author.Tests.{lt-ltb, le-ltb, eqb-true, not-false, ltb-false}
 use Rattle.digits.specs.Sum.{sum}
 use Rattle.digits.proofs.Least.{least-before}
-use Rattle.record.specs.Record.{recordRow, recordPad}
-use Rattle.record.specs.Table.{row, recordAt, openTable}
-use Rattle.record.proofs.Table.{length-rows, row-open}
-use Rattle.component.specs.Row.{rowOk}
-use Rattle.netlist.specs.Netlist.{sized, netlistOf}
-use Rattle.netlist.specs.declared.Size.{Size}
-use Rattle.component.proofs.Facts.{row-parts, kind-le, row-facts}
-use Rattle.wiring.specs.Stages.{Kinds, wired, Wiring}
-use Rattle.wiring.specs.declared.Wired.{Wired}
-use Rattle.wiring.specs.declared.Wired.the-variants.{Sound, Unmatched, Circular}
+use Rattle.digits.proofs.Bools.{or-false}
 use Rattle.refusals.specs.Refusals.{firstRefusal}
-use Rattle.reader.specs.File.{headerFields, coloursIn, channelsIn, componentsIn, sizeIn, badRow, badRecord, firstBadRecord, headerTests, recordTests, wireTests}
-use Rattle.reader.specs.Reading.{readAs, reading, ReadOf}
-use Rattle.reader.specs.Stages.{headerRead, wiredVerdict, TableRead, Unpacking}
-use Rattle.netlist.specs.Accepted.{AcceptedFabric}
 use Rattle.refusals.specs.declared.Refusal.{Refusal}
 use Rattle.refusals.specs.declared.Refusal.the-variants.{FileShort, WrongEdition, CountRange, WrongLength, ByteSum, BadField}
 use Rattle.refusals.specs.declared.Verdict.{Verdict}
 use Rattle.refusals.specs.declared.Verdict.the-variants.{Accepted, Refused}
+use Rattle.refusals.proofs.Refusals.{andThen, refusal-append, cond-accepted}
+use Rattle.record.specs.Record.{recordRow, recordPad}
+use Rattle.record.specs.Table.{row, recordAt, openTable}
+use Rattle.record.specs.Sizes.{fileSize, rowSize}
+use Rattle.record.proofs.Table.{length-rows, row-open}
+use Rattle.component.specs.Row.{rowOk}
+use Rattle.component.specs.Limits.{mostChannels, mostColours, mostComponents}
+use Rattle.component.proofs.Facts.{row-parts, kind-le, row-facts}
+use Rattle.wiring.specs.Stages.{Kinds, wired, Wiring}
+use Rattle.wiring.specs.declared.Wired.{Wired}
+use Rattle.wiring.specs.declared.Wired.the-variants.{Sound, Unmatched, Circular}
+use Rattle.netlist.specs.Netlist.{sized, netlistOf}
+use Rattle.netlist.specs.declared.Size.{Size}
+use Rattle.netlist.specs.Accepted.{AcceptedFabric}
+use Rattle.reader.specs.File.{headerFields, coloursIn, channelsIn, componentsIn, sizeIn, badRow, badRecord, firstBadRecord, headerTests, recordTests, wireTests}
+use Rattle.reader.specs.Reading.{readAs, reading, ReadOf}
+use Rattle.reader.specs.Stages.{headerRead, wiredVerdict, TableRead, Unpacking}
 use Rattle.reader.specs.declared.Reading.{Reading}
 use Rattle.reader.specs.declared.Reading.the-variants.{Fabric, Rejected}
-use Rattle.refusals.proofs.Refusals.{andThen, refusal-append, cond-accepted}
-use Rattle.reader.proofs.Tests.{wire-tests, wrongEdition, wrongRange, or-false, colours-lt, channels-lt}
+use Rattle.reader.proofs.Tests.{wire-tests, wrongEdition, wrongRange, positive, colours-lt, channels-lt}
 
 -- ---- answers, taken apart
 pub read-fabric : (v : Verdict) (t : Size) {s : Size} → readAs v t ≡ Fabric s → (v ≡ Accepted) × (t ≡ s)
@@ -58,7 +61,7 @@ module _ (colours channels n : ℕ) (file table : List ℕ) where
       let s = or-false (not (eqb (recordPad file (recordAt k)) 0)) (badRow colours channels table k) (least-before (badRecord colours channels file table) n k (omega arith)) in
       (eqb-true (recordPad file (recordAt k)) 0 (not-false _ (s .0)), not-false _ (s .1))
 
-  pub table-kinds : n ≤ 128 → length table ≡ 24 * n → n ≤ firstBadRecord colours channels file table n → Kinds table n
+  pub table-kinds : n ≤ mostComponents → length table ≡ rowSize * n → n ≤ firstBadRecord colours channels file table n → Kinds table n
   table-kinds few l h = record { long = omega arith; few = few; kinds = λ k b. kind-le (row-parts colours channels (row table k) (good-records h k b .1)) }
 
   pub records-accepted : firstRefusal (recordTests colours channels file table n) ≡ Accepted → (n ≤ firstBadRecord colours channels file table n) × (firstRefusal (wireTests table n channels) ≡ Accepted)
@@ -84,18 +87,18 @@ module _ (colours channels n : ℕ) (file table : List ℕ) where
           wires = λ a. w .sound (wired-accepted (wired table n channels) (wire-tests table n channels ∙ records-accepted a .1));
         }
 
-pub rows-long : (s : Size) (file table : List ℕ) → Unpacking s file table → length table ≡ 24 * s .components
+pub rows-long : (s : Size) (file table : List ℕ) → Unpacking s file table → length table ≡ rowSize * s .components
 rows-long s file table u = ap length (u .is) ∙ length-rows file (s .components)
 
-pub rows-room : (s : Size) (file table : List ℕ) → Unpacking s file table → 24 * s .components ≤ length table
+pub rows-room : (s : Size) (file table : List ℕ) → Unpacking s file table → rowSize * s .components ≤ length table
 rows-room s file table u = omega (arith, rows-long s file table u)
 
 -- ---- the header
 pub record HeaderFacts (h file : List ℕ) : Type 0 where
   pub someRows : 0 < componentsIn h
-  pub fewRows : componentsIn h ≤ 128
+  pub fewRows : componentsIn h ≤ mostComponents
   pub someChannels : 0 < channelsIn h
-  pub long : length file ≡ 4 + 13 * componentsIn h
+  pub long : length file ≡ fileSize (componentsIn h)
   pub sums : sum file % 256 ≡ 0
   pub edition : (getD h 0 0 ≡ 1) × (getD h 2 0 ≡ 0)
 
@@ -103,22 +106,19 @@ pub header-facts : (h file : List ℕ) → firstRefusal (headerTests h file) ≡
 header-facts h file e =
     let s₁ = cond-accepted WrongEdition (wrongEdition h) _ e in
     let s₂ = cond-accepted CountRange (wrongRange h) _ (s₁ .1) in
-    let s₃ = cond-accepted WrongLength (not (eqb (length file) (4 + 13 * componentsIn h))) _ (s₂ .1) in
+    let s₃ = cond-accepted WrongLength (not (eqb (length file) (fileSize (componentsIn h)))) _ (s₂ .1) in
     let s₄ = cond-accepted ByteSum (not (eqb (sum file % 256) 0)) Accepted (s₃ .1) in
-    let r = or-false (eqb (getD h 3 0) 0 || ltb 128 (getD h 3 0)) (eqb (getD h 4 0) 0) (s₂ .0) in
-    let q = or-false (eqb (getD h 3 0) 0) (ltb 128 (getD h 3 0)) (r .0) in
+    let r = or-false (eqb (getD h 3 0) 0 || ltb mostComponents (getD h 3 0)) (eqb (getD h 4 0) 0) (s₂ .0) in
+    let q = or-false (eqb (getD h 3 0) 0) (ltb mostComponents (getD h 3 0)) (r .0) in
     let d = or-false (not (eqb (getD h 0 0) 1)) (not (eqb (getD h 2 0) 0)) (s₁ .0) in
     record {
       someRows = positive (getD h 3 0) (q .0);
-      fewRows = ltb-false 128 (getD h 3 0) (q .1);
+      fewRows = ltb-false mostComponents (getD h 3 0) (q .1);
       someChannels = positive (getD h 4 0) (r .1);
-      long = eqb-true (length file) (4 + 13 * componentsIn h) (not-false _ (s₃ .0));
+      long = eqb-true (length file) (fileSize (componentsIn h)) (not-false _ (s₃ .0));
       sums = eqb-true (sum file % 256) 0 (not-false _ (s₄ .0));
       edition = (eqb-true (getD h 0 0) 1 (not-false _ (d .0)), eqb-true (getD h 2 0) 0 (not-false _ (d .1)));
     }
-  where
-    positive : (x : ℕ) → eqb x 0 ≡ false → 0 < x
-    positive x f = let n : x ≡ 0 → ⊥ = λ z. true≢false (sym (eq-eqb x 0 z) ∙ f) in omega (arith, n)
 
 -- ---- the rows
 pub mask-byte : (file : List ℕ) (n k : ℕ) → k < n → getD (row (openTable file n) k) 20 0 < 256
@@ -161,7 +161,7 @@ module _ (file : List ℕ) where
       pub reading-rest : reading file ≡ readAs (recordsOf s) s
       reading-rest = reading-is ∙ ap₂ (λ (v : Verdict) (t : Size). readAs (andThen v (recordsOf t)) t) (head .0) (head .1)
 
-      pub header-few : (s .components ≤ 128) × (s .colours ≤ 8) × (s .channels ≤ 255) × (length file ≡ 4 + 13 * s .components) × (0 < s .colours) × (0 < s .channels) × (0 < s .components)
+      pub header-few : (s .components ≤ mostComponents) × (s .colours ≤ mostColours) × (s .channels ≤ mostChannels) × (length file ≡ fileSize (s .components)) × (0 < s .colours) × (0 < s .channels) × (0 < s .components)
       header-few =
           let f = header-facts (headerFields file) file (head .0) in
           let a : coloursIn (headerFields file) ≡ s .colours = ap (λ (t : Size). t .colours) (head .1) in
@@ -171,11 +171,11 @@ module _ (file : List ℕ) where
           let cb = channels-lt file in
           (omega (arith, f .fewRows), omega arith, omega arith, omega (arith, f .long), omega arith, omega (arith, f .someChannels), omega (arith, f .someRows))
 
-      pub read-done : (before after table : List ℕ) (answer : Reading) (ends order : List ℕ) → after ≡ openTable file (s .components) ++ drop (24 * s .components) before
+      pub read-done : (before after table : List ℕ) (answer : Reading) (ends order : List ℕ) → after ≡ openTable file (s .components) ++ drop (rowSize * s .components) before
           → table ≡ openTable file (s .components) → TableRead s file table answer ends order → ReadOf file before after answer ends order
       read-done before after table answer ends order ea et t = record {
         is = t′ .is ∙ sym reading-rest;
-        table = λ z f. subst (λ (x : Size). after ≡ openTable file (x .components) ++ drop (24 * x .components) before) (read-fabric (recordsOf s) s (sym reading-rest ∙ f) .1) ea;
+        table = λ z f. subst (λ (x : Size). after ≡ openTable file (x .components) ++ drop (rowSize * x .components) before) (read-fabric (recordsOf s) s (sym reading-rest ∙ f) .1) ea;
         facts = λ z f.
             let q = read-fabric (recordsOf s) s (sym reading-rest ∙ f) in
             subst (λ (x : Size). AcceptedFabric (netlistOf x (openTable file (x .components))) ends order) (q .1) (accepted (q .0));
@@ -211,8 +211,8 @@ read-refused file before after answer ends order r e a = record {
     apart q = let z : _≡_ {A = ℕ} 0 1 = cc in absurd (omega arith)
 
 -- the rows stand in front
-pub rows-front : (file before after : List ℕ) (N : ℕ) → after ≡ openTable file N ++ drop (24 * N) before → take (24 * N) after ≡ openTable file N
-rows-front file before after N e = ap (take (24 * N)) e ∙ take-at (openTable file N) (drop (24 * N) before) (24 * N) (length-rows file N)
+pub rows-front : (file before after : List ℕ) (N : ℕ) → after ≡ openTable file N ++ drop (rowSize * N) before → take (rowSize * N) after ≡ openTable file N
+rows-front file before after N e = ap (take (rowSize * N)) e ∙ take-at (openTable file N) (drop (rowSize * N) before) (rowSize * N) (length-rows file N)
 
-pub rows-front-long : (file before after : List ℕ) (N : ℕ) → after ≡ openTable file N ++ drop (24 * N) before → 24 * N ≡ length (take (24 * N) after)
+pub rows-front-long : (file before after : List ℕ) (N : ℕ) → after ≡ openTable file N ++ drop (rowSize * N) before → rowSize * N ≡ length (take (rowSize * N) after)
 rows-front-long file before after N e = sym (ap length (rows-front file before after N e) ∙ length-rows file N)

@@ -4,16 +4,18 @@ use Prim.Native.Nat.{ℕ, _*_, _≤_}
 use native.Mathlib.Omega.{arith}
 use mathlib.Core.List.{List, _++_}
 use lib.ListN.{length, take}
-use Rattle.record.specs.Table.{openTable}
-use Rattle.record.proofs.Table.{length-rows}
-use Rattle.netlist.specs.Netlist.{Netlist, netlistOf}
-use Rattle.netlist.specs.Accepted.{AcceptedFabric}
-use Rattle.netlist.specs.declared.Size.{Size}
 use Rattle.refusals.specs.Refusals.{Test, firstRefusal}
 use Rattle.refusals.specs.declared.Refusal.{Refusal}
 use Rattle.refusals.specs.declared.Verdict.{Verdict}
 use Rattle.refusals.specs.declared.Verdict.the-variants.{Accepted, Refused}
 use Rattle.refusals.proofs.Refusals.{andThen, refusal-append, then-accepted}
+use Rattle.record.specs.Table.{openTable}
+use Rattle.record.specs.Sizes.{rowSize}
+use Rattle.record.proofs.Table.{length-rows}
+use Rattle.component.specs.Limits.{tableSize}
+use Rattle.netlist.specs.Netlist.{Netlist, netlistOf}
+use Rattle.netlist.specs.Accepted.{AcceptedFabric, AcceptedNetlist}
+use Rattle.netlist.specs.declared.Size.{Size}
 use Rattle.reader.specs.File.{headerFields, sizeIn, netlistIn, fileTests}
 use Rattle.reader.specs.Reading.{reading, ReadOf}
 use Rattle.reader.specs.declared.Reading.{Reading}
@@ -54,21 +56,25 @@ facts file ok = accepted-exists file (sizeIn (headerFields file)) (file-reads fi
 
 -- ---- what the reader lays down, of an accepted file: each call opens with it
 pub record Opened (file : List ℕ) (s : Size) (rows ends order : List ℕ) : Type 0 where
-  pub fits : 24 * s .components ≤ 3072
-  pub long : 24 * s .components ≡ length (take (24 * s .components) rows)
-  pub same : netlistIn file ≡ netlistOf s (take (24 * s .components) rows)
-  pub facts : AcceptedFabric (netlistOf s (take (24 * s .components) rows)) ends order
-  pub judged : (rest : Netlist → List Test) → firstRefusal (rest (netlistOf s (take (24 * s .components) rows))) ≡ firstRefusal (fileTests file ++ rest (netlistIn file))
+  pub fits : rowSize * s .components ≤ tableSize
+  pub long : rowSize * s .components ≡ length (take (rowSize * s .components) rows)
+  pub same : netlistIn file ≡ netlistOf s (take (rowSize * s .components) rows)
+  pub facts : AcceptedFabric (netlistOf s (take (rowSize * s .components) rows)) ends order
+  pub netlist : AcceptedNetlist (netlistOf s (take (rowSize * s .components) rows))
+  pub judged : (rest : Netlist → List Test) → firstRefusal (rest (netlistOf s (take (rowSize * s .components) rows))) ≡ firstRefusal (fileTests file ++ rest (netlistIn file))
 
 pub opened : {file before rows : List ℕ} {a : Reading} {ends order : List ℕ} {s : Size} → ReadOf file before rows a ends order → a ≡ Fabric s → Opened file s rows ends order
 opened {file} {before} {rows} {ends = ends} {order = order} {s = s} r e =
     let q : reading file ≡ Fabric s = sym (r .is) ∙ e in
-    let front : take (24 * s .components) rows ≡ openTable file (s .components) = rows-front file before rows (s .components) (r .table s q) in
-    let same : netlistIn file ≡ netlistOf s (take (24 * s .components) rows) = netlist-is file q ∙ ap (netlistOf s) (sym front) in
+    let front : take (rowSize * s .components) rows ≡ openTable file (s .components) = rows-front file before rows (s .components) (r .table s q) in
+    let same : netlistIn file ≡ netlistOf s (take (rowSize * s .components) rows) = netlist-is file q ∙ ap (netlistOf s) (sym front) in
+    let f : AcceptedFabric (netlistOf s (take (rowSize * s .components) rows)) ends order =
+    subst (λ (t : List ℕ). AcceptedFabric (netlistOf s t) ends order) (sym front) (r .facts s q) in
     record {
       fits = omega (arith, accepted-long file q .1);
       long = sym (ap length front ∙ length-rows file (s .components));
       same = same;
-      facts = subst (λ (t : List ℕ). AcceptedFabric (netlistOf s t) ends order) (sym front) (r .facts s q);
+      facts = f;
+      netlist = record { ends = ends; order = order; facts = f };
       judged = rest-judged file q _ same;
     }

@@ -8,22 +8,24 @@ use Rattle.digits.specs.Packed.{joined, fields, bytes}
 use Rattle.digits.specs.Least.{least}
 use Rattle.digits.specs.Sum.{sum}
 use Rattle.order.specs.Graph.{hasCircle}
-use Rattle.record.specs.Record.{recordPad}
-use Rattle.record.specs.Table.{row, recordAt, openTable}
-use Rattle.component.specs.Row.{rowOk}
-use Rattle.netlist.specs.Netlist.{Netlist, sized, netlistOf}
-use Rattle.netlist.specs.declared.Size.{Size}
-use Rattle.wiring.specs.Ends.{firstUnmatched}
-use Rattle.wiring.specs.Signals.{dependence}
 use Rattle.refusals.specs.Refusals.{Test, test}
 use Rattle.refusals.specs.declared.Refusal.the-variants.{FileShort, WrongEdition, CountRange, WrongLength, ByteSum, BadField, ChannelEnds, Circle}
+use Rattle.record.specs.Record.{recordPad}
+use Rattle.record.specs.Table.{row, recordAt, openTable}
+use Rattle.record.specs.Sizes.{fileSize, headerSize}
+use Rattle.component.specs.Row.{rowOk}
+use Rattle.component.specs.Limits.{mostComponents}
+use Rattle.wiring.specs.Ends.{firstUnmatched}
+use Rattle.wiring.specs.Signals.{dependence}
+use Rattle.netlist.specs.Netlist.{Netlist, sized, netlistOf}
+use Rattle.netlist.specs.declared.Size.{Size}
 
 -- Header, 4 bytes: edition 4 bits (1); C-1, 3 bits; one 0 bit; N, 8 bits (1..128); M, 8 bits (1..255); a check byte, 8 bits.
 abbrev pub headerWidths : List ℕ
 headerWidths = 4 ∷ 3 ∷ 1 ∷ 8 ∷ 8 ∷ 8 ∷ []
 
 unfoldable pub headerFields : List ℕ → List ℕ
-headerFields file = fields headerWidths (joined (bytes 4) file 0)
+headerFields file = fields headerWidths (joined (bytes headerSize) file 0)
 
 abbrev pub coloursIn : List ℕ → ℕ
 coloursIn h = getD h 1 0 + 1
@@ -63,8 +65,8 @@ firstBadRecord colours channels file table n = least (badRecord colours channels
 abbrev pub headerTests : List ℕ → List ℕ → List Test
 headerTests h file =
     test WrongEdition (not (eqb (getD h 0 0) 1) || not (eqb (getD h 2 0) 0))
-    ∷ test CountRange (eqb (componentsIn h) 0 || ltb 128 (componentsIn h) || eqb (channelsIn h) 0)
-    ∷ test WrongLength (not (eqb (length file) (4 + 13 * componentsIn h)))
+    ∷ test CountRange (eqb (componentsIn h) 0 || ltb mostComponents (componentsIn h) || eqb (channelsIn h) 0)
+    ∷ test WrongLength (not (eqb (length file) (fileSize (componentsIn h))))
     ∷ test ByteSum (not (eqb (sum file % 256) 0))
     ∷ []
 
@@ -83,4 +85,4 @@ recordTests colours channels file table n =
 abbrev pub fileTests : List ℕ → List Test
 fileTests file =
     let h : List ℕ = headerFields file in
-    (test FileShort (ltb (length file) 4) ∷ headerTests h file) ++ recordTests (coloursIn h) (channelsIn h) file (openTable file (componentsIn h)) (componentsIn h)
+    (test FileShort (ltb (length file) headerSize) ∷ headerTests h file) ++ recordTests (coloursIn h) (channelsIn h) file (openTable file (componentsIn h)) (componentsIn h)

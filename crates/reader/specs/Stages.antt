@@ -1,21 +1,25 @@
 -- What the stages of the code come to. It describes the code, and proofs/Facts.antt ties it to the definitions.
 use mathlib.Core.Path.{_≡_}
-use Prim.Native.Nat.{ℕ, _+_, _*_, _≤_, _<_}
+use Prim.Native.Nat.{ℕ, _≤_, _<_}
 use mathlib.Core.Bool.{true}
 use mathlib.Core.List.{List}
 use lib.ListN.{length, replicate}
-use Rattle.record.specs.Table.{row, openTable}
-use Rattle.component.specs.Row.{rowOk}
-use Rattle.wiring.specs.Sound.{SoundWires}
-use Rattle.wiring.specs.declared.Wired.{Wired}
-use Rattle.wiring.specs.declared.Wired.the-variants.{Sound, Unmatched, Circular}
+use Rattle.order.specs.Graph.{mostSignals}
 use Rattle.refusals.specs.Refusals.{firstRefusal}
-use Rattle.netlist.specs.declared.Size.{Size}
-use Rattle.reader.specs.File.{headerTests, recordTests, sizeIn}
-use Rattle.reader.specs.Reading.{readAs}
 use Rattle.refusals.specs.declared.Refusal.the-variants.{ChannelEnds, Circle}
 use Rattle.refusals.specs.declared.Verdict.{Verdict}
 use Rattle.refusals.specs.declared.Verdict.the-variants.{Accepted, Refused}
+use Rattle.record.specs.Table.{row, openTable}
+use Rattle.record.specs.Sizes.{fileSize}
+use Rattle.component.specs.Row.{rowOk}
+use Rattle.component.specs.Limits.{mostChannels, mostColours, mostComponents}
+use Rattle.wiring.specs.Sound.{SoundWires}
+use Rattle.wiring.specs.declared.Wired.{Wired}
+use Rattle.wiring.specs.declared.Wired.the-variants.{Sound, Unmatched, Circular}
+use Rattle.wiring.specs.Stages.{endsSize}
+use Rattle.netlist.specs.declared.Size.{Size}
+use Rattle.reader.specs.File.{headerTests, recordTests, sizeIn}
+use Rattle.reader.specs.Reading.{readAs}
 use Rattle.reader.specs.declared.Reading.{Reading}
 
 abbrev pub wiredVerdict : Wired → Verdict
@@ -36,13 +40,13 @@ pub record TableRead (s : Size) (file table : List ℕ) (answer : Reading) (ends
 
 -- a file whose header is right, and the rows of its records
 pub record Unpacking (s : Size) (file table : List ℕ) : Type 0 where
-  pub few : s .components ≤ 128
-  pub fewColours : s .colours ≤ 8
-  pub fewChannels : s .channels ≤ 255
-  pub long : length file ≡ 4 + 13 * s .components
+  pub few : s .components ≤ mostComponents
+  pub fewColours : s .colours ≤ mostColours
+  pub fewChannels : s .channels ≤ mostChannels
+  pub long : length file ≡ fileSize (s .components)
   pub is : table ≡ openTable file (s .components)
 
 -- the room for the ends and the order, as it is lent
 pub record Cleared (ends order : List ℕ) : Type 0 where
-  pub zeros : ends ≡ replicate 513 0
-  pub room : 510 ≤ length order
+  pub zeros : ends ≡ replicate endsSize 0
+  pub room : mostSignals ≤ length order

@@ -1,15 +1,24 @@
 // Reader of the packed fabric: refusals 1 to 8, the open table, the ends of the channels and the order of the signals.
 ghost use mathlib.Core.Path.{_≡_};
-ghost use Prim.Native.Nat.{_+_, _*_, _/_, _%_, _≤_, _<_};
+ghost use Prim.Native.Nat.{_+_, _*_, _≤_, _<_};
 ghost use lib.ListN.{length, getD};
 ghost use Rattle.digits.specs.Least.{least};
 ghost use Rattle.digits.specs.Packed.{fields};
+ghost use Rattle.record.specs.Sizes.{fileSize, rowSize, headerSize};
+ghost use Rattle.component.specs.Limits.{mostColours, tableSize};
 ghost use Rattle.reader.specs.File.{badPad, firstBadRow, headerWidths, headerFields, badRow, firstBadRecord};
 ghost use Rattle.reader.specs.Reading.{readAs, verdictOf, coloursOf, channelsOf, reading, ReadOf};
 ghost use Rattle.reader.specs.Stages.{headerRead, wiredVerdict, TableRead, Unpacking, Cleared};
+use component::MOST_COMPONENTS;
+use component::TABLE_SIZE;
 use netlist::Size;
+use order::MOST_SIGNALS;
+use record::HEADER_SIZE;
+use record::RECORD_SIZE;
+use record::ROW_SIZE;
 use refusals::Refusal;
 use refusals::Verdict;
+use wiring::ENDS_SIZE;
 
 // What reading a file comes to.
 pub enum Reading {
@@ -77,10 +86,10 @@ fn cut_header(x: u64) -> [u8; 6]
 }
 
 fn header(file: &[u8]) -> [u8; 6]
-    requires { ⌜ 4 ≤ length (now file) ⌝ }
+    requires { ⌜ headerSize ≤ length (now file) ⌝ }
     ensures { λ r. ⌜ r ≡ headerFields (now (file .entry)) ⌝ }
 {
-    cut_header(digits::word(file, 0, 4))
+    cut_header(digits::word(file, 0, HEADER_SIZE))
 }
 
 // The refusals 2 to 5 of a file with these header fields.
@@ -97,10 +106,10 @@ fn read_header(h: [u8; 6], file: &[u8]) -> Reading
     if (h[0] != 1) | (h[2] != 0) {
         return Reading::Rejected(Refusal::WrongEdition);
     }
-    if (components == 0) | (128 < components) | (channels == 0) {
+    if (components == 0) | (MOST_COMPONENTS < components) | (channels == 0) {
         return Reading::Rejected(Refusal::CountRange);
     }
-    if file.len() != 4 + 13 * components {
+    if file.len() != HEADER_SIZE + RECORD_SIZE * components {
         return Reading::Rejected(Refusal::WrongLength);
     }
     if digits::byte_sum(file) != 0 {
@@ -115,7 +124,7 @@ fn read_header(h: [u8; 6], file: &[u8]) -> Reading
 
 // Whether row k of a table is wrong.
 fn bad_row(table: &[u8], k: usize, colours: u8, channels: u8) -> bool
-    requires { ⌜ (24 * k + 24 ≤ length (now table)) × (colours ≤ 8) ⌝ }
+    requires { ⌜ (rowSize * k + rowSize ≤ length (now table)) × (colours ≤ mostColours) ⌝ }
     ensures { λ r. ⌜ r ≡ badRow colours channels (now (table .entry)) k ⌝ }
 {
     !component::row_ok(record::row_at(table, k), colours, channels)
@@ -123,7 +132,7 @@ fn bad_row(table: &[u8], k: usize, colours: u8, channels: u8) -> bool
 
 // The lowest of n rows that is wrong, or n.
 pub fn first_bad_row(table: &[u8], n: usize, colours: u8, channels: u8) -> usize
-    requires { ⌜ (24 * n ≤ length (now table)) × (colours ≤ 8) ⌝ }
+    requires { ⌜ (rowSize * n ≤ length (now table)) × (colours ≤ mostColours) ⌝ }
     ensures { λ r. ⌜ r ≡ firstBadRow colours channels (now (table .entry)) n ⌝ }
 {
     let mut k: usize = 0;
@@ -138,12 +147,12 @@ pub fn first_bad_row(table: &[u8], n: usize, colours: u8, channels: u8) -> usize
 
 // The lowest of n records whose last six bits are not 0, or n.
 fn first_bad_pad(file: &[u8], n: usize) -> usize
-    requires { ⌜ 4 + 13 * n ≤ length (now file) ⌝ }
+    requires { ⌜ fileSize n ≤ length (now file) ⌝ }
     ensures { λ r. ⌜ r ≡ least (badPad (now (file .entry))) n ⌝ }
 {
     let mut k: usize = 0;
     while k < n {
-        if record::padded(file, 4 + 13 * k) {
+        if record::padded(file, HEADER_SIZE + RECORD_SIZE * k) {
             return k;
         }
         k += 1;
@@ -153,7 +162,7 @@ fn first_bad_pad(file: &[u8], n: usize) -> usize
 
 // The lowest of n records that is wrong, or n: the rows below the first wrong pad are looked at.
 fn first_bad_record(file: &[u8], table: &[u8], n: usize, colours: u8, channels: u8) -> usize
-    requires { ⌜ (4 + 13 * n ≤ length (now file)) × (24 * n ≤ length (now table)) × (colours ≤ 8) ⌝ }
+    requires { ⌜ (fileSize n ≤ length (now file)) × (rowSize * n ≤ length (now table)) × (colours ≤ mostColours) ⌝ }
     ensures { λ r. ⌜ r ≡ firstBadRecord colours channels (now (file .entry)) (now (table .entry)) n ⌝ }
 {
     first_bad_row(table, first_bad_pad(file, n), colours, channels)
@@ -165,7 +174,7 @@ fn read_table(
     table: &[u8],
     size: Size,
     ends: &mut [u16],
-    order: &mut [u16; 510],
+    order: &mut [u16; MOST_SIGNALS],
 ) -> Reading
     requires { ⌜ Unpacking size (now file) (now table) × Cleared (now ends) (now order) ⌝ }
     ensures { λ r. ⌜ TableRead size (now (file .entry)) (now (table .entry)) r (now (ends .exit)) (now (order .exit)) ⌝ }
@@ -182,11 +191,16 @@ fn read_table(
 
 // Reads a file: the refusals 1 to 8. Of an accepted one it lays down the rows, 1 + the end that gives each signal, and an order of
 // the signals.
-pub fn read(file: &[u8], table: &mut [u8], ends: &mut [u16], order: &mut [u16; 510]) -> Reading
-    requires { ⌜ (3072 ≤ length (now table)) × Cleared (now ends) (now order) ⌝ }
+pub fn read(
+    file: &[u8],
+    table: &mut [u8],
+    ends: &mut [u16],
+    order: &mut [u16; MOST_SIGNALS],
+) -> Reading
+    requires { ⌜ (tableSize ≤ length (now table)) × Cleared (now ends) (now order) ⌝ }
     ensures { λ r. ⌜ ReadOf (now (file .entry)) (now (table .entry)) (now (table .exit)) r (now (ends .exit)) (now (order .exit)) ⌝ }
 {
-    if file.len() < 4 {
+    if file.len() < HEADER_SIZE {
         return Reading::Rejected(Refusal::FileShort);
     }
     match read_header(header(file), file) {
@@ -194,7 +208,7 @@ pub fn read(file: &[u8], table: &mut [u8], ends: &mut [u16], order: &mut [u16; 5
         Reading::Fabric(size) => {
             let n = size.components;
             record::put_rows(file, n, &mut *table);
-            let end = 24 * n;
+            let end = ROW_SIZE * n;
             read_table(file, &table[..end], size, &mut *ends, &mut *order)
         }
     }
@@ -204,8 +218,8 @@ pub fn read(file: &[u8], table: &mut [u8], ends: &mut [u16], order: &mut [u16; 5
 pub fn reading_of(file: &[u8]) -> Reading
     ensures { λ r. ⌜ r ≡ reading (now (file .entry)) ⌝ }
 {
-    let mut rows = [0u8; 3072];
-    let mut ends = [0u16; 513];
-    let mut order = [0u16; 510];
+    let mut rows = [0u8; TABLE_SIZE];
+    let mut ends = [0u16; ENDS_SIZE];
+    let mut order = [0u16; MOST_SIGNALS];
     read(file, &mut rows, &mut ends, &mut order)
 }

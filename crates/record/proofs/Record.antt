@@ -8,14 +8,15 @@ use lib.Seq.{length-take-le, getD-take, getD-drop}
 use Rattle.digits.specs.Packed.{joined, fields, Fit, bytes}
 use Rattle.digits.proofs.Packed.{joined-lt, joined-append, fields-low, fields-append, joined-fields, fields-joined, joined-part, fit-replicate, length-fields}
 use Rattle.record.specs.Record.{upperWidths, lowerWidths, rowWidths, recordRow, recordPad, recordBytes}
+use Rattle.record.specs.Sizes.{recordSize, rowSize}
 
-pub length-row : (file : List ℕ) (at : ℕ) → length (recordRow file at) ≡ 24
+pub length-row : (file : List ℕ) (at : ℕ) → length (recordRow file at) ≡ rowSize
 unfolding recordRow
-length-row file at = length-fields rowWidths (joined (bytes 13) file at / 2 ^ 6)
+length-row file at = length-fields rowWidths (joined (bytes recordSize) file at / 2 ^ 6)
 
-pub length-record : (f : List ℕ) → length (recordBytes f) ≡ 13
+pub length-record : (f : List ℕ) → length (recordBytes f) ≡ recordSize
 unfolding recordBytes
-length-record f = length-fields (bytes 13) (joined rowWidths f 0 * 2 ^ 6)
+length-record f = length-fields (bytes recordSize) (joined rowWidths f 0 * 2 ^ 6)
 
 -- ---- reading: the upper 51 and the lower 47 bits of the row's 98, from the words of 7 and of 6 bytes
 module _ (n u v : ℕ) (e : n ≡ u * 281474976710656 + v) (h : v < 281474976710656) where
@@ -29,7 +30,7 @@ pub record-cut : (s : List ℕ) (at u v : ℕ) → u ≡ joined (bytes 7) s at �
     → fields upperWidths (u / 32) ++ fields lowerWidths ((u % 32 * 281474976710656 + v) / 64) ≡ recordRow s at
 unfolding recordRow
 record-cut s at u v eu ev =
-    let n : ℕ = joined (bytes 13) s at in
+    let n : ℕ = joined (bytes recordSize) s at in
     let v< : v < 2 ^ 48 = rw ev (joined-lt (bytes 6) s (at + 7)) in
     let e : n ≡ u * 2 ^ 48 + v = joined-append (bytes 7) (bytes 6) s at ∙ rw (eu, ev) in
     rw (upper-cut n u v e v<, lower-cut n u v e v<, fields-low lowerWidths (n / 64), ← fields-append upperWidths lowerWidths (n / 64))
@@ -40,7 +41,7 @@ last-bits n u b e h = omega arith
 
 pub record-pad : (s : List ℕ) (at : ℕ) → getD s (at + 12) 0 < 256 → getD s (at + 12) 0 % 64 ≡ recordPad s at
 unfolding recordPad
-record-pad s at h = last-bits (joined (bytes 13) s at) (joined (bytes 12) s at) (getD s (at + 12) 0) (joined-append (bytes 12) (8 ∷ []) s at ∙ omega arith) h
+record-pad s at h = last-bits (joined (bytes recordSize) s at) (joined (bytes 12) s at) (getD s (at + 12) 0) (joined-append (bytes 12) (8 ∷ []) s at ∙ omega arith) h
 
 -- ---- writing: 7 and 6 bytes, from the numbers of the upper and of the lower fields
 module _ (n x y : ℕ) (e : n ≡ (x * 140737488355328 + y) * 64) where
@@ -78,9 +79,9 @@ module _ (j : ℕ) where
 unshift-back : (n : ℕ) → n % 64 ≡ 0 → n / 64 * 64 ≡ n
 unshift-back n h = omega arith
 
-number-back : (row : List ℕ) → joined (bytes 13) (recordBytes row) 0 ≡ joined rowWidths row 0 * 64
+number-back : (row : List ℕ) → joined (bytes recordSize) (recordBytes row) 0 ≡ joined rowWidths row 0 * 64
 unfolding recordBytes
-number-back row = joined-fields (bytes 13) (joined rowWidths row 0 * 64) (shift-lt (joined rowWidths row 0) (joined-lt rowWidths row 0))
+number-back row = joined-fields (bytes recordSize) (joined rowWidths row 0 * 64) (shift-lt (joined rowWidths row 0) (joined-lt rowWidths row 0))
 
 -- a row that fits, packed and unpacked
 pub row-back : (row : List ℕ) → Fit rowWidths row → recordRow (recordBytes row) 0 ≡ row
@@ -92,21 +93,21 @@ unfolding recordPad
 pad-back row = ap (λ (n : ℕ). n % 64) (number-back row) ∙ shift-pad (joined rowWidths row 0)
 
 -- 13 bytes, unpacked and packed
-pub bytes-back : (file : List ℕ) (at : ℕ) → ((k : ℕ) → getD file k 0 < 2 ^ 8) → at + 13 ≤ length file → recordPad file at ≡ 0 → recordBytes (recordRow file at) ≡ take 13 (drop at file)
+pub bytes-back : (file : List ℕ) (at : ℕ) → ((k : ℕ) → getD file k 0 < 2 ^ 8) → at + recordSize ≤ length file → recordPad file at ≡ 0 → recordBytes (recordRow file at) ≡ take recordSize (drop at file)
 unfolding recordRow recordBytes recordPad
 bytes-back file at byte h pad =
-    let n : ℕ = joined (bytes 13) file at in
-    let part : List ℕ = take 13 (drop at file) in
+    let n : ℕ = joined (bytes recordSize) file at in
+    let part : List ℕ = take recordSize (drop at file) in
     let same : joined rowWidths (fields rowWidths (n / 64)) 0 * 64 ≡ n =
-    ap (λ (k : ℕ). k * 64) (joined-fields rowWidths (n / 64) (unshift-lt n (joined-lt (bytes 13) file at))) ∙ unshift-back n pad in
-    ap (fields (bytes 13)) (same ∙ sym (joined-part (bytes 13) file at))
-    ∙ fields-joined (bytes 13) part
-    (fit-replicate 13 8 part (length-take-le 13 (drop at file) (rw length-drop (omega arith)))
-    (λ k b. rw (getD-take 13 (drop at file) k 0, getD-drop) (byte (at + k))))
+    ap (λ (k : ℕ). k * 64) (joined-fields rowWidths (n / 64) (unshift-lt n (joined-lt (bytes recordSize) file at))) ∙ unshift-back n pad in
+    ap (fields (bytes recordSize)) (same ∙ sym (joined-part (bytes recordSize) file at))
+    ∙ fields-joined (bytes recordSize) part
+    (fit-replicate recordSize 8 part (length-take-le recordSize (drop at file) (rw length-drop (omega arith)))
+    (λ k b. rw (getD-take recordSize (drop at file) k 0, getD-drop) (byte (at + k))))
 
 -- only its own 13 bytes matter
-pub record-part : (file : List ℕ) (at : ℕ) → (recordRow (take 13 (drop at file)) 0 ≡ recordRow file at) × (recordPad (take 13 (drop at file)) 0 ≡ recordPad file at)
+pub record-part : (file : List ℕ) (at : ℕ) → (recordRow (take recordSize (drop at file)) 0 ≡ recordRow file at) × (recordPad (take recordSize (drop at file)) 0 ≡ recordPad file at)
 unfolding recordRow recordPad
 record-part file at =
-    let e = joined-part (bytes 13) file at in
+    let e = joined-part (bytes recordSize) file at in
     (ap (λ (n : ℕ). fields rowWidths (n / 64)) e, ap (λ (n : ℕ). n % 64) e)

@@ -1,6 +1,6 @@
 -- Laws of the loops over records and rows. Assumes nothing.
 use mathlib.Core.Path.{_≡_, refl, ap, sym, subst, _∙_}
-use Prim.Native.Nat.{ℕ, zero, suc, _+_, _-_, _*_, _≤_, _<_}
+use Prim.Native.Nat.{ℕ, zero, suc, _+_, _*_, _≤_, _<_}
 use native.Mathlib.Nat.{zero-add, add-assoc, mul-suc, mul-zero, mul-le-mul-left, le-of-eq}
 use native.Mathlib.Numerals.{add-one}
 use native.Mathlib.Decide.{decLt}
@@ -10,14 +10,15 @@ use lib.ListN.{length, getD, take, drop, length-append, length-drop, take-append
 use lib.Seq.{paste, take-at, drop-at, length-take-le, drop-drop, getD-drop, getD-take, take-all, take-append-le, drop-append-le}
 use Rattle.record.specs.Record.{recordRow, recordBytes}
 use Rattle.record.specs.Table.{row, recordAt, openTable, records}
+use Rattle.record.specs.Sizes.{headerSize, recordSize, fileSize, rowSize}
 use Rattle.record.proofs.Record.{length-row, length-record}
 
 -- field i of row k
-pub row-at : (t : List ℕ) (k i : ℕ) → i < 24 → getD (row t k) i 0 ≡ getD t (24 * k + i) 0
-row-at t k i h = getD-take 24 (drop (24 * k) t) i 0 h ∙ getD-drop (24 * k) t i 0
+pub row-at : (t : List ℕ) (k i : ℕ) → i < rowSize → getD (row t k) i 0 ≡ getD t (rowSize * k + i) 0
+row-at t k i h = getD-take rowSize (drop (rowSize * k) t) i 0 h ∙ getD-drop (rowSize * k) t i 0
 
-pub row-length : (t : List ℕ) (k : ℕ) → 24 * k + 24 ≤ length t → length (row t k) ≡ 24
-row-length t k h = length-take-le 24 (drop (24 * k) t) (rw length-drop (omega arith))
+pub row-length : (t : List ℕ) (k : ℕ) → rowSize * k + rowSize ≤ length t → length (row t k) ≡ rowSize
+row-length t k h = length-take-le rowSize (drop (rowSize * k) t) (rw length-drop (omega arith))
 
 -- ---- parts of equal length, one behind the other
 module _ (w : ℕ) (part : ℕ → List ℕ) (long : (k : ℕ) → length (part k) ≡ w) (whole : ℕ → List ℕ)
@@ -75,21 +76,21 @@ unfolding openTable
 rows-zero file = refl
 
 module _ (file : List ℕ) where
-  pub length-rows : (n : ℕ) → length (openTable file n) ≡ 24 * n
-  length-rows = length-parts 24 (λ k. recordRow file (recordAt k)) (λ k. length-row file (recordAt k)) (openTable file) (rows-zero file) (rows-suc file)
+  pub length-rows : (n : ℕ) → length (openTable file n) ≡ rowSize * n
+  length-rows = length-parts rowSize (λ k. recordRow file (recordAt k)) (λ k. length-row file (recordAt k)) (openTable file) (rows-zero file) (rows-suc file)
 
   -- row k of the open table is that of record k
   pub row-open : (n k : ℕ) → k < n → row (openTable file n) k ≡ recordRow file (recordAt k)
-  row-open = part-in 24 (λ k. recordRow file (recordAt k)) (λ k. length-row file (recordAt k)) (openTable file) (rows-zero file) (rows-suc file)
+  row-open = part-in rowSize (λ k. recordRow file (recordAt k)) (λ k. length-row file (recordAt k)) (openTable file) (rows-zero file) (rows-suc file)
 
-  pub rows-none : (t : List ℕ) → t ≡ openTable file 0 ++ drop (24 * 0) t
+  pub rows-none : (t : List ℕ) → t ≡ openTable file 0 ++ drop (rowSize * 0) t
   unfolding openTable
   rows-none t = refl
 
-  pub rows-more : (t : List ℕ) (k : ℕ) (b : List ℕ) → b ≡ recordRow file (recordAt k) → paste (openTable file k ++ drop (24 * k) t) (24 * k) b 24 ≡ openTable file (k + 1) ++ drop (24 * (k + 1)) t
+  pub rows-more : (t : List ℕ) (k : ℕ) (b : List ℕ) → b ≡ recordRow file (recordAt k) → paste (openTable file k ++ drop (rowSize * k) t) (rowSize * k) b rowSize ≡ openTable file (k + 1) ++ drop (rowSize * (k + 1)) t
   rows-more t k b e =
-      let z : (n : ℕ) → 0 + 24 * n ≡ 24 * n = λ n. zero-add (24 * n) in
-      rw (add-one k, ← z k, ← z (suc k)) (parts-more 24 (λ k. recordRow file (recordAt k)) (λ k. length-row file (recordAt k)) (openTable file) (rows-zero file) (rows-suc file) [] t k b e)
+      let z : (n : ℕ) → 0 + rowSize * n ≡ rowSize * n = λ n. zero-add (rowSize * n) in
+      rw (add-one k, ← z k, ← z (suc k)) (parts-more rowSize (λ k. recordRow file (recordAt k)) (λ k. length-row file (recordAt k)) (openTable file) (rows-zero file) (rows-suc file) [] t k b e)
 
 -- ---- the records of a table's rows
 module _ (t : List ℕ) where
@@ -101,20 +102,20 @@ module _ (t : List ℕ) where
   unfolding records
   records-suc k = refl
 
-  pub length-records : (n : ℕ) → length (records t n) ≡ 13 * n
-  length-records = length-parts 13 (λ k. recordBytes (row t k)) (λ k. length-record (row t k)) (records t) records-zero records-suc
+  pub length-records : (n : ℕ) → length (records t n) ≡ recordSize * n
+  length-records = length-parts recordSize (λ k. recordBytes (row t k)) (λ k. length-record (row t k)) (records t) records-zero records-suc
 
-  pub record-in : (n k : ℕ) → k < n → take 13 (drop (13 * k) (records t n)) ≡ recordBytes (row t k)
-  record-in = part-in 13 (λ k. recordBytes (row t k)) (λ k. length-record (row t k)) (records t) records-zero records-suc
+  pub record-in : (n k : ℕ) → k < n → take recordSize (drop (recordSize * k) (records t n)) ≡ recordBytes (row t k)
+  record-in = part-in recordSize (λ k. recordBytes (row t k)) (λ k. length-record (row t k)) (records t) records-zero records-suc
 
-  pub records-none : (o : List ℕ) → o ≡ take 4 o ++ records t 0 ++ drop (4 + 13 * 0) o
+  pub records-none : (o : List ℕ) → o ≡ take headerSize o ++ records t 0 ++ drop (4 + recordSize * 0) o
   unfolding records
-  records-none o = sym (take-append-drop 4 o) ∙ ap (λ (l : List ℕ). l ++ drop 4 o) (sym (append-nil (take 4 o)))
+  records-none o = sym (take-append-drop headerSize o) ∙ ap (λ (l : List ℕ). l ++ drop headerSize o) (sym (append-nil (take headerSize o)))
 
-  pub records-more : (o : List ℕ) (k : ℕ) (b : List ℕ) → 4 ≤ length o → b ≡ recordBytes (row t k)
-      → paste (take 4 o ++ records t k ++ drop (4 + 13 * k) o) (4 + 13 * k) b 13 ≡ take 4 o ++ records t (k + 1) ++ drop (4 + 13 * (k + 1)) o
+  pub records-more : (o : List ℕ) (k : ℕ) (b : List ℕ) → headerSize ≤ length o → b ≡ recordBytes (row t k)
+      → paste (take headerSize o ++ records t k ++ drop (fileSize k) o) (fileSize k) b recordSize ≡ take headerSize o ++ records t (k + 1) ++ drop (fileSize (k + 1)) o
   records-more o k b h e =
-      let four : length (take 4 o) ≡ 4 = length-take-le 4 o h in
+      let four : length (take headerSize o) ≡ headerSize = length-take-le headerSize o h in
       rw (add-one k)
-      (subst (λ (f : ℕ). paste (take 4 o ++ records t k ++ drop (f + 13 * k) o) (f + 13 * k) b 13 ≡ take 4 o ++ records t (suc k) ++ drop (f + 13 * suc k) o) four
-      (parts-more 13 (λ k. recordBytes (row t k)) (λ k. length-record (row t k)) (records t) records-zero records-suc (take 4 o) o k b e))
+      (subst (λ (f : ℕ). paste (take headerSize o ++ records t k ++ drop (f + recordSize * k) o) (f + recordSize * k) b recordSize ≡ take headerSize o ++ records t (suc k) ++ drop (f + recordSize * suc k) o) four
+      (parts-more recordSize (λ k. recordBytes (row t k)) (λ k. length-record (row t k)) (records t) records-zero records-suc (take headerSize o) o k b e))

@@ -1,16 +1,17 @@
 -- All records of a file, and all rows of a table.
-use Prim.Native.Nat.{ℕ, zero, suc, _+_, _*_}
+use Prim.Native.Nat.{ℕ, zero, suc, _*_}
 use mathlib.Core.List.{List, [], _++_}
 use lib.ListN.{take, drop}
 use Rattle.record.specs.Record.{recordRow, recordBytes}
+use Rattle.record.specs.Sizes.{fileSize, rowSize}
 
 -- row k of an open table
 abbrev pub row : List ℕ → ℕ → List ℕ
-row table k = take 24 (drop (24 * k) table)
+row table k = take rowSize (drop (rowSize * k) table)
 
--- the header is 4 bytes, then come the records
+-- record k stands behind the header and the records before it
 abbrev pub recordAt : ℕ → ℕ
-recordAt k = 4 + 13 * k
+recordAt k = fileSize k
 
 -- the open table of the first n records of a file
 unfoldable pub openTable : List ℕ → ℕ → List ℕ

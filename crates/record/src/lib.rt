@@ -1,6 +1,6 @@
 // A component's record: 13 bytes, and its row of the open table, 24 bytes.
 ghost use mathlib.Core.Path.{_≡_};
-ghost use Prim.Native.Nat.{_+_, _*_, _≤_, _<_, _%_};
+ghost use Prim.Native.Nat.{_+_, _*_, _≤_};
 ghost use mathlib.Core.List.{[], _∷_, _++_};
 ghost use mathlib.Core.Bool.{not};
 ghost use lib.ListN.{length, take, drop, replicate};
@@ -8,9 +8,17 @@ ghost use lib.Dec.{eqb};
 ghost use Rattle.digits.specs.Packed.{joined, fields, bytes};
 ghost use Rattle.record.specs.Record.{upperWidths, lowerWidths, recordRow, recordPad, recordBytes};
 ghost use Rattle.record.specs.Table.{row, openTable, records};
+ghost use Rattle.record.specs.Sizes.{headerSize, recordSize, fileSize, rowSize};
+
+// The header, a record and a row, in bytes.
+pub const HEADER_SIZE: usize = 4;
+
+pub const RECORD_SIZE: usize = 13;
+
+pub const ROW_SIZE: usize = 24;
 
 // The row of which x has the upper 51 bits and y the lower 47.
-fn cut_row(x: u64, y: u64) -> [u8; 24]
+fn cut_row(x: u64, y: u64) -> [u8; ROW_SIZE]
     ensures { λ r. ⌜ r ≡ fields upperWidths x ++ fields lowerWidths y ⌝ }
 {
     [
@@ -42,8 +50,8 @@ fn cut_row(x: u64, y: u64) -> [u8; 24]
 }
 
 // The row of the record at index at.
-pub fn record_row(file: &[u8], at: usize) -> [u8; 24]
-    requires { ⌜ at + 13 ≤ length (now file) ⌝ }
+pub fn record_row(file: &[u8], at: usize) -> [u8; ROW_SIZE]
+    requires { ⌜ at + recordSize ≤ length (now file) ⌝ }
     ensures { λ r. ⌜ r ≡ recordRow (now (file .entry)) at ⌝ }
 {
     let upper = digits::word(file, at, 7);
@@ -53,14 +61,14 @@ pub fn record_row(file: &[u8], at: usize) -> [u8; 24]
 
 // Whether the last six bits of the record at index at are not 0.
 pub fn padded(file: &[u8], at: usize) -> bool
-    requires { ⌜ at + 13 ≤ length (now file) ⌝ }
+    requires { ⌜ at + recordSize ≤ length (now file) ⌝ }
     ensures { λ r. ⌜ r ≡ not (eqb (recordPad (now (file .entry)) at) 0) ⌝ }
 {
     file[at + 12] % 64 != 0
 }
 
 // The 7 bytes of u and the 6 bytes of v.
-fn cut_bytes(u: u64, v: u64) -> [u8; 13]
+fn cut_bytes(u: u64, v: u64) -> [u8; RECORD_SIZE]
     ensures { λ r. ⌜ r ≡ fields (bytes 7) u ++ fields (bytes 6) v ⌝ }
 {
     [
@@ -99,7 +107,7 @@ fn ports_number(kind: u8, a: u8, b: u8, c: u8) -> u64
         + (a as u64 % 256 * 65536 + (b as u64 % 256 * 256 + (c as u64 % 256 * 1 + 0)))
 }
 
-fn upper_number(f: [u8; 24]) -> u64
+fn upper_number(f: [u8; ROW_SIZE]) -> u64
     ensures { λ r. ⌜ r ≡ joined upperWidths f 0 ⌝ }
 {
     let p = ports_number(f[0], f[1], f[2], f[3]);
@@ -114,7 +122,7 @@ fn tail_number(mask: u8, capacity: u8, filling: u8, colour: u8) -> u64
         + (capacity as u64 % 64 * 512 + (filling as u64 % 64 * 8 + (colour as u64 % 8 * 1 + 0)))
 }
 
-fn lower_number(f: [u8; 24]) -> u64
+fn lower_number(f: [u8; ROW_SIZE]) -> u64
     ensures { λ r. ⌜ r ≡ joined lowerWidths f 12 ⌝ }
 {
     let m = map_number(f[12], f[13], f[14], f[15], f[16], f[17], f[18], f[19]);
@@ -123,7 +131,7 @@ fn lower_number(f: [u8; 24]) -> u64
 }
 
 // The 13 bytes of a row.
-pub fn record_bytes(f: [u8; 24]) -> [u8; 13]
+pub fn record_bytes(f: [u8; ROW_SIZE]) -> [u8; RECORD_SIZE]
     ensures { λ r. ⌜ r ≡ recordBytes f ⌝ }
 {
     let upper = upper_number(f);
@@ -132,38 +140,38 @@ pub fn record_bytes(f: [u8; 24]) -> [u8; 13]
 }
 
 // Row k of a table.
-pub fn row_at(table: &[u8], k: usize) -> [u8; 24]
-    requires { ⌜ 24 * k + 24 ≤ length (now table) ⌝ }
+pub fn row_at(table: &[u8], k: usize) -> [u8; ROW_SIZE]
+    requires { ⌜ rowSize * k + rowSize ≤ length (now table) ⌝ }
     ensures { λ r. ⌜ r ≡ row (now (table .entry)) k ⌝ }
 {
-    let mut f = [0u8; 24];
-    let at = 24 * k;
-    digits::copy(&table[at..], 24, &mut f, 0);
+    let mut f = [0u8; ROW_SIZE];
+    let at = ROW_SIZE * k;
+    digits::copy(&table[at..], ROW_SIZE, &mut f, 0);
     f
 }
 
 // Writes the rows of n records.
 pub fn put_rows(file: &[u8], n: usize, table: &mut [u8])
-    requires { ⌜ (4 + 13 * n ≤ length (now file)) × (24 * n ≤ length (now table)) ⌝ }
-    ensures { λ _. ⌜ now (table .exit) ≡ openTable (now (file .entry)) n ++ drop (24 * n) (now (table .entry)) ⌝ }
+    requires { ⌜ (fileSize n ≤ length (now file)) × (rowSize * n ≤ length (now table)) ⌝ }
+    ensures { λ _. ⌜ now (table .exit) ≡ openTable (now (file .entry)) n ++ drop (rowSize * n) (now (table .entry)) ⌝ }
 {
     let mut k: usize = 0;
     while k < n {
-        let f = record_row(file, 4 + 13 * k);
-        digits::copy(&f, 24, &mut *table, 24 * k);
+        let f = record_row(file, HEADER_SIZE + RECORD_SIZE * k);
+        digits::copy(&f, ROW_SIZE, &mut *table, ROW_SIZE * k);
         k += 1;
     }
 }
 
 // Writes the records of n rows behind the header's 4 bytes.
 pub fn put_records(table: &[u8], n: usize, out: &mut [u8])
-    requires { ⌜ (24 * n ≤ length (now table)) × (4 + 13 * n ≤ length (now out)) ⌝ }
-    ensures { λ _. ⌜ now (out .exit) ≡ take 4 (now (out .entry)) ++ records (now (table .entry)) n ++ drop (4 + 13 * n) (now (out .entry)) ⌝ }
+    requires { ⌜ (rowSize * n ≤ length (now table)) × (fileSize n ≤ length (now out)) ⌝ }
+    ensures { λ _. ⌜ now (out .exit) ≡ take headerSize (now (out .entry)) ++ records (now (table .entry)) n ++ drop (fileSize n) (now (out .entry)) ⌝ }
 {
     let mut k: usize = 0;
     while k < n {
         let b = record_bytes(row_at(table, k));
-        digits::copy(&b, 13, &mut *out, 4 + 13 * k);
+        digits::copy(&b, RECORD_SIZE, &mut *out, HEADER_SIZE + RECORD_SIZE * k);
         k += 1;
     }
 }

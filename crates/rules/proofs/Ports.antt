@@ -2,19 +2,7 @@
 use mathlib.Core.Path.{_≡_, refl}
 use mathlib.Core.Bool.{true, false≢true}
 use Prim.Native.Nat.{ℕ, zero, suc}
-use Rattle.component.specs.Kind.{fork, join, switch, merge, kindOf, B, C, portOf, portUse, isOutput, isInput}
-
--- the last arm of a `match` on a kind
-pub kind-rest : (k : ℕ) → (k ≡ 0 → ⊥) → (k ≡ 1 → ⊥) → (k ≡ 2 → ⊥) → (k ≡ 3 → ⊥) → (k ≡ 4 → ⊥) → (k ≡ 5 → ⊥) → (k ≡ 6 → ⊥) → kindOf k ≡ merge
-unfolding kindOf
-kind-rest zero h0 h1 h2 h3 h4 h5 h6 = absurd (h0 refl)
-kind-rest (suc zero) h0 h1 h2 h3 h4 h5 h6 = absurd (h1 refl)
-kind-rest (suc (suc zero)) h0 h1 h2 h3 h4 h5 h6 = absurd (h2 refl)
-kind-rest (suc (suc (suc zero))) h0 h1 h2 h3 h4 h5 h6 = absurd (h3 refl)
-kind-rest (suc (suc (suc (suc zero)))) h0 h1 h2 h3 h4 h5 h6 = absurd (h4 refl)
-kind-rest (suc (suc (suc (suc (suc zero))))) h0 h1 h2 h3 h4 h5 h6 = absurd (h5 refl)
-kind-rest (suc (suc (suc (suc (suc (suc zero)))))) h0 h1 h2 h3 h4 h5 h6 = absurd (h6 refl)
-kind-rest (suc (suc (suc (suc (suc (suc (suc k))))))) h0 h1 h2 h3 h4 h5 h6 = refl
+use Rattle.component.specs.Kind.{fork, join, switch, merge, B, C, portOf, portUse, isOutput, isInput}
 
 -- a kind with two: the one that is not port 1, or not port 0
 pub fork-rest : (n : ℕ) → (n ≡ 1 → ⊥) → isOutput (portUse fork (portOf n)) ≡ true → portOf n ≡ C

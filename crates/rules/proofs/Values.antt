@@ -1,19 +1,13 @@
 -- Laws of the values of signals. Assumes nothing.
 use mathlib.Core.Path.{_≡_, refl, ap}
 use mathlib.Core.Bool.{Bool, true, false, not}
-use mathlib.Core.List.{List}
-use Prim.Native.Nat.{ℕ, zero, suc, _-_, _/_, _%_, _^_, _≤_}
-use native.Mathlib.Omega.{arith}
-use lib.ListN.{length, getD, List·getD-eq-default}
+use Prim.Native.Nat.{ℕ, zero, suc}
 use lib.Dec.{eqb, eqb·suc-zero}
 use Rattle.rules.specs.Rules.{bit, unless, offered, when, orElse}
 
 pub offered-bit : (b : Bool) → bit b ≡ offered (bit b)
 offered-bit true = refl
 offered-bit false = refl
-
-pub past-end : (row : List ℕ) (i : ℕ) → length row ≤ i → 0 ≡ getD row i 0
-past-end row i h = let e : getD row i 0 ≡ 0 = List·getD-eq-default row 0 h in cc
 
 pub when-open : (n v : ℕ) → (n ≡ 0 → ⊥) → v ≡ when n v
 when-open zero v h = absurd (h refl)
@@ -22,12 +16,6 @@ when-open (suc n) v h = refl
 pub bit-nonzero : (n : ℕ) → bit (not (eqb n 0)) ≡ offered n
 bit-nonzero zero = refl
 bit-nonzero (suc n) = ap (λ (b : Bool). bit (not b)) (eqb·suc-zero n)
-
-pub mask-low : (m d : ℕ) → 8 ≤ d → bit (eqb (m % 2) 1) ≡ bit (eqb (m / 2 ^ (7 - d) % 2) 1)
-mask-low m d h =
-    let e : 7 - d ≡ 0 = omega arith in
-    let f : m / 1 ≡ m = omega arith in
-    rw (e, f)
 
 -- a byte as a flag is as good a first choice as the byte
 pub offered-or : (m n : ℕ) → offered (orElse (bit (not (eqb m 0))) (bit (not (eqb n 0)))) ≡ offered (orElse m n)

@@ -1,13 +1,17 @@
 // The rules of the eight kinds.
 ghost use mathlib.Core.Path.{_≡_};
 ghost use mathlib.Core.List.{List};
-ghost use Prim.Native.Nat.{ℕ, suc, _+_, _-_, _≤_, _<_};
+ghost use Prim.Native.Nat.{ℕ, suc, _+_, _-_, _*_, _≤_, _<_};
 ghost use lib.ListN.{length, getD};
 ghost use lib.Dec.{ltb};
+ghost use Rattle.record.specs.Sizes.{rowSize};
+ghost use Rattle.record.specs.Table.{row};
 ghost use Rattle.component.specs.Kind.{fork, join, switch, merge, portOf};
-ghost use Rattle.component.specs.Row.{capacity};
+ghost use Rattle.component.specs.Row.{mapOf, capacity};
+ghost use Rattle.cells.specs.Cells.{cellSize};
 ghost use Rattle.rules.specs.Rules.{offerNumber, bit, when, unless, offered, orElse, mapped, toB, picksB, componentWith, rule};
 ghost use Rattle.rules.specs.Seen.{seen, Offers, Takes};
+use digits::wide;
 
 // An offer: nothing, or a colour.
 pub enum Offer {
@@ -38,12 +42,12 @@ impl HeldSource {
         }
     }
 
-    // It holds its colour if that was offered and not taken.
-    pub fn next(self, choice: Offer, taken: bool) -> HeldSource
-        ensures { λ r. ⌜ offerNumber (r .held) ≡ unless (bit taken) (orElse (offerNumber (self .held)) (offerNumber choice)) ⌝ }
+    // It holds its colour if it was offered and not taken.
+    pub fn next(self, channel: Channel) -> HeldSource
+        ensures { λ r. ⌜ offerNumber (r .held) ≡ unless (bit (channel .take)) (offerNumber (channel .offer)) ⌝ }
     {
-        let o = self.offer(choice);
-        if taken {
+        let o = channel.offer;
+        if channel.take {
             return HeldSource {
                 held: Offer::Nothing,
             };
@@ -69,11 +73,12 @@ impl HeldSink {
     }
 
     // It holds if it took and nothing was offered.
-    pub fn next(self, chosen: bool, offer: Offer) -> HeldSink
-        ensures { λ r. ⌜ bit (r .held) ≡ unless (offered (offerNumber offer)) (offered (orElse (bit (self .held)) (bit chosen))) ⌝ }
+    pub fn next(self, channel: Channel) -> HeldSink
+        ensures { λ r. ⌜ bit (r .held) ≡ unless (offered (offerNumber (channel .offer))) (bit (channel .take)) ⌝ }
     {
-        let t = self.take(chosen);
-        match offer {
+        let o = channel.offer;
+        let t = channel.take;
+        match o {
             Offer::Colour(_) => HeldSink { held: false },
             Offer::Nothing => HeldSink { held: t },
         }
@@ -142,46 +147,26 @@ fn colour_of(o: Offer) -> usize
     }
 }
 
-// Entry j of a row, 0 past its end: read without a branch, so that it takes the same time either way.
-fn entry_at(row: &[u8], j: usize) -> u8
-    requires { ⌜ length (now row) ≡ 24 ⌝ }
-    ensures { λ r. ⌜ r ≡ getD (now (row .entry)) j 0 ⌝ }
+// The offer with its colour mapped, by the first map of row k or the second; read before it is decided on.
+pub fn map_from(table: &[u8], k: usize, second: bool, o: Offer) -> Offer
+    requires { ⌜ rowSize * k + rowSize ≤ length (now table) ⌝ }
+    ensures { λ r. ⌜ offerNumber r ≡ mapped (mapOf second (row (now (table .entry)) k)) (offerNumber o) ⌝ }
 {
-    let i = if j < 24 { j } else { 23 };
-    let entry = row[i];
-    if j < 24 {
-        return entry;
-    }
-    0
-}
-
-// The offer with its colour mapped, by the map at place `at` of the row.
-pub fn map_from(row: &[u8], at: usize, o: Offer) -> Offer
-    requires { ⌜ (length (now row) ≡ 24) × (at ≤ 16) ⌝ }
-    ensures { λ r. ⌜ offerNumber r ≡ mapped (λ d. getD (now (row .entry)) (at + d) 0) (offerNumber o) ⌝ }
-{
-    let j = at + colour_of(o);
-    let entry = entry_at(row, j);
+    let entry = component::map_of_any(table, k, second, colour_of(o));
     match o {
         Offer::Colour(_) => Offer::Colour(entry),
         Offer::Nothing => Offer::Nothing,
     }
 }
 
-// The mask's answer for an offer's colour: true for B. Colour 0 is the highest bit.
-fn to_b(row: &[u8], o: Offer) -> bool
-    requires { ⌜ length (now row) ≡ 24 ⌝ }
-    ensures { λ r. ⌜ bit r ≡ toB (now (row .entry)) (offerNumber o) ⌝ }
+// The mask's answer for an offer's colour: true for B.
+fn to_b(table: &[u8], k: usize, o: Offer) -> bool
+    requires { ⌜ rowSize * k + rowSize ≤ length (now table) ⌝ }
+    ensures { λ r. ⌜ bit r ≡ toB (row (now (table .entry)) k) (offerNumber o) ⌝ }
 {
-    let mask = row[20];
+    let mask = component::mask(table, k);
     match o {
-        Offer::Colour(d) => {
-            if d < 8 {
-                let s = 7 - d;
-                return (mask >> s) % 2 == 1;
-            }
-            mask % 2 == 1
-        }
+        Offer::Colour(d) => component::has_colour(wide(mask), wide(d)),
         Offer::Nothing => false,
     }
 }
@@ -201,7 +186,7 @@ fn picks_b(pick: u8, a: Offer, b: Offer) -> bool
 
 // Source: its held colour if it has one, else its choice.
 pub fn source_offer(cell: &[u8], pick: u8) -> Offer
-    requires { ⌜ length (now cell) ≡ 64 ⌝ }
+    requires { ⌜ length (now cell) ≡ cellSize ⌝ }
     ensures { λ r. ⌜ offerNumber r ≡ orElse (getD (now (cell .entry)) 0 0) pick ⌝ }
 {
     let n = cell[0];
@@ -213,7 +198,7 @@ pub fn source_offer(cell: &[u8], pick: u8) -> Offer
 
 // Sink takes if held or chosen.
 pub fn sink_take(cell: &[u8], pick: u8) -> bool
-    requires { ⌜ length (now cell) ≡ 64 ⌝ }
+    requires { ⌜ length (now cell) ≡ cellSize ⌝ }
     ensures { λ r. ⌜ bit r ≡ offered (orElse (getD (now (cell .entry)) 0 0) pick) ⌝ }
 {
     let n = cell[0];
@@ -223,7 +208,7 @@ pub fn sink_take(cell: &[u8], pick: u8) -> bool
 
 // Queue: offers its front colour if not empty.
 pub fn queue_offer(cell: &[u8]) -> Offer
-    requires { ⌜ length (now cell) ≡ 64 ⌝ }
+    requires { ⌜ length (now cell) ≡ cellSize ⌝ }
     ensures { λ r. ⌜ offerNumber r ≡ when (getD (now (cell .entry)) 0 0) (suc (getD (now (cell .entry)) 1 0)) ⌝ }
 {
     let n = cell[0];
@@ -235,39 +220,39 @@ pub fn queue_offer(cell: &[u8]) -> Offer
 }
 
 // Queue: takes if not full at the step's beginning.
-pub fn queue_take(row: &[u8], cell: &[u8]) -> bool
-    requires { ⌜ (length (now row) ≡ 24) × (length (now cell) ≡ 64) ⌝ }
-    ensures { λ r. ⌜ bit r ≡ bit (ltb (getD (now (cell .entry)) 0 0) (capacity (now (row .entry)))) ⌝ }
+pub fn queue_take(table: &[u8], k: usize, cell: &[u8]) -> bool
+    requires { ⌜ (rowSize * k + rowSize ≤ length (now table)) × (length (now cell) ≡ cellSize) ⌝ }
+    ensures { λ r. ⌜ bit r ≡ bit (ltb (getD (now (cell .entry)) 0 0) (capacity (row (now (table .entry)) k))) ⌝ }
 {
     let n = cell[0];
-    let m = row[21];
+    let m = component::capacity(table, k);
     n < m
 }
 
 // Fork: B is offered the first map's colour if the input is offered and C takes; C likewise with the second map and B taking.
-pub fn fork_offer(row: &[u8], port: usize, a: Offer, bt: bool, ct: bool) -> Offer
-    requires { ⌜ length (now row) ≡ 24 ⌝ }
-    ensures { λ r. ⌜ ((s : List ℕ) (p ob : ℕ) → Offers fork port (componentWith (now (row .entry)) s p) (seen (offerNumber a) ob (bit bt) (bit ct)) (offerNumber r)) ⌝ }
+pub fn fork_offer(table: &[u8], k: usize, port: usize, a: Offer, bt: bool, ct: bool) -> Offer
+    requires { ⌜ rowSize * k + rowSize ≤ length (now table) ⌝ }
+    ensures { λ r. ⌜ ((s : List ℕ) (p ob : ℕ) → Offers fork port (componentWith (row (now (table .entry)) k) s p) (seen (offerNumber a) ob (bit bt) (bit ct)) (offerNumber r)) ⌝ }
 {
     match port {
         1 => {
-            let m = map_from(row, 4, a);
+            let m = map_from(table, k, false, a);
             gate(ct, m)
         }
         _ => {
-            let m = map_from(row, 12, a);
+            let m = map_from(table, k, true, a);
             gate(bt, m)
         }
     }
 }
 
 // Join: offers the mapped colour of A if A and B are offered.
-pub fn join_offer(row: &[u8], a: Offer, b: Offer) -> Offer
-    requires { ⌜ length (now row) ≡ 24 ⌝ }
-    ensures { λ r. ⌜ ((s : List ℕ) (p tb tc : ℕ) → offerNumber r ≡ rule join (portOf 2) (componentWith (now (row .entry)) s p) (seen (offerNumber a) (offerNumber b) tb tc)) ⌝ }
+pub fn join_offer(table: &[u8], k: usize, a: Offer, b: Offer) -> Offer
+    requires { ⌜ rowSize * k + rowSize ≤ length (now table) ⌝ }
+    ensures { λ r. ⌜ ((s : List ℕ) (p tb tc : ℕ) → offerNumber r ≡ rule join (portOf 2) (componentWith (row (now (table .entry)) k) s p) (seen (offerNumber a) (offerNumber b) tb tc)) ⌝ }
 {
     let g = is_offered(b);
-    let m = map_from(row, 4, a);
+    let m = map_from(table, k, false, a);
     gate(g, m)
 }
 
@@ -288,11 +273,11 @@ pub fn join_take(port: usize, a: Offer, b: Offer, ct: bool) -> bool
 }
 
 // Switch: offers its colour to the one output the mask names, none to the other.
-pub fn switch_offer(row: &[u8], port: usize, a: Offer) -> Offer
-    requires { ⌜ length (now row) ≡ 24 ⌝ }
-    ensures { λ r. ⌜ ((s : List ℕ) (p ob tb tc : ℕ) → Offers switch port (componentWith (now (row .entry)) s p) (seen (offerNumber a) ob tb tc) (offerNumber r)) ⌝ }
+pub fn switch_offer(table: &[u8], k: usize, port: usize, a: Offer) -> Offer
+    requires { ⌜ rowSize * k + rowSize ≤ length (now table) ⌝ }
+    ensures { λ r. ⌜ ((s : List ℕ) (p ob tb tc : ℕ) → Offers switch port (componentWith (row (now (table .entry)) k) s p) (seen (offerNumber a) ob tb tc) (offerNumber r)) ⌝ }
 {
-    let g = to_b(row, a);
+    let g = to_b(table, k, a);
     match port {
         1 => gate(g, a),
         _ => gate(!g, a),
@@ -300,12 +285,12 @@ pub fn switch_offer(row: &[u8], port: usize, a: Offer) -> Offer
 }
 
 // Switch: its input is taken if it is offered and that output takes.
-pub fn switch_take(row: &[u8], a: Offer, bt: bool, ct: bool) -> bool
-    requires { ⌜ length (now row) ≡ 24 ⌝ }
-    ensures { λ r. ⌜ ((s : List ℕ) (p ob : ℕ) → bit r ≡ rule switch (portOf 0) (componentWith (now (row .entry)) s p) (seen (offerNumber a) ob (bit bt) (bit ct))) ⌝ }
+pub fn switch_take(table: &[u8], k: usize, a: Offer, bt: bool, ct: bool) -> bool
+    requires { ⌜ rowSize * k + rowSize ≤ length (now table) ⌝ }
+    ensures { λ r. ⌜ ((s : List ℕ) (p ob : ℕ) → bit r ≡ rule switch (portOf 0) (componentWith (row (now (table .entry)) k) s p) (seen (offerNumber a) ob (bit bt) (bit ct))) ⌝ }
 {
     let o = is_offered(a);
-    let g = to_b(row, a);
+    let g = to_b(table, k, a);
     if g {
         return both(o, bt);
     }

@@ -1,6 +1,6 @@
 -- One turn of the evaluation along a plan. Assumes nothing.
 use mathlib.Core.Path.{_≡_, refl, sym, ap, _∙_}
-use mathlib.Core.Bool.{Bool, true, false, _&&_, false≢true}
+use mathlib.Core.Bool.{Bool, true, false, false≢true}
 use mathlib.Core.List.{List, _++_}
 use Prim.Native.Nat.{ℕ, _+_, _*_, _/_, _%_, _≤_, _<_}
 use native.Mathlib.Decide.{ℕ-discrete}
@@ -8,32 +8,34 @@ use native.Mathlib.Omega.{arith}
 use lib.ListN.{length, getD, set, drop, length-set}
 use lib.Seq.{getD-set-same, getD-set-other, drop-set-lt}
 use Rattle.digits.specs.UpTo.{upTo}
+use Rattle.digits.proofs.Bools.{and-both}
 use Rattle.digits.proofs.UpTo.{filled-at, filled-is, filled-rest}
+use Rattle.record.specs.Sizes.{rowSize}
 use Rattle.component.specs.Kind.{Kind, source, sink, queue, function, fork, join, switch, merge, Port, A, B, C, kindOf, portOf, Use, input, output, unused, portUse, isInput, isUsed}
 use Rattle.component.specs.Row.{kindNumber, kind, port}
-use Rattle.netlist.specs.Netlist.{Netlist, rowOf}
 use Rattle.wiring.specs.Ends.{endPort, onSide}
 use Rattle.wiring.specs.Signals.{Near, offerA, offerB, takeB, takeC, isOffer, endOf}
+use Rattle.netlist.specs.Netlist.{Netlist, rowOf}
+use Rattle.netlist.specs.Accepted.{AcceptedFabric}
+use Rattle.cells.specs.Cells.{cell, cellSize}
 use Rattle.rules.specs.Rules.{Component, rule}
 use Rattle.rules.specs.Seen.{ruleNumbered, useOf}
 use Rattle.rules.proofs.Rules.{reads-only}
 use Rattle.rules.proofs.Bounds.{when-le, unless-le, either-le, offered-le, bit-le}
-use Rattle.netlist.specs.Accepted.{AcceptedFabric}
 use Rattle.plan.specs.Plan.{planField, Planned}
 use Rattle.plan.proofs.Plan.{owner}
-use Rattle.cells.specs.Cells.{cell}
 use Rattle.signals.specs.Signals.{componentAt, near, value}
 use Rattle.signals.specs.Signals as signals
 use Rattle.signals.specs.Channels.{seenAt, There, Readable}
 use Rattle.signals.proofs.Signals.{value-next}
 
--- ---- a take is 0 or 1
+-- ---- a rule that gives a take gives 0 or 1
 one-le : 1 ≤ 1
 one-le = omega arith
 
 ruleset flags = (one-le, when-le, unless-le, either-le, offered-le, bit-le)
 
-take-le : (k : Kind) (p : Port) → isInput (portUse k p) ≡ true → (c : Component) (v : Near → ℕ) → v takeB ≤ 1 → v takeC ≤ 1 → rule k p c v ≤ 1
+pub take-le : (k : Kind) (p : Port) → isInput (portUse k p) ≡ true → (c : Component) (v : Near → ℕ) → v takeB ≤ 1 → v takeC ≤ 1 → rule k p c v ≤ 1
 unfolding portUse rule
 take-le source A i c v hb hc = absurd (false≢true i)
 take-le source B i c v hb hc = absurd (false≢true i)
@@ -100,10 +102,6 @@ pub record Place (f : Netlist) (order : List ℕ) (i n s k pa pb pc : ℕ) : Typ
   pub b : pb ≡ planField f (getD order i 0) 4
   pub c : pc ≡ planField f (getD order i 0) 5
 
-and-left : (x y : Bool) → (x && y) ≡ true → x ≡ true
-and-left true y h = refl
-and-left false y h = absurd (false≢true h)
-
 used-side : (side : Bool) (u : Use) → onSide side u ≡ true → isUsed u ≡ true
 used-side true input h = refl
 used-side true output h = refl
@@ -147,7 +145,7 @@ module _ {f : Netlist} {order : List ℕ} {i n s k pa pb pc : ℕ} (l : Place f 
     below = a .wires .sorted .below i h
 
     given-side : onSide (isOffer t) (portUse (kind (rowOf f (e / 3))) (endPort e)) ≡ true
-    given-side = and-left _ _ (a .wires .matched .is t below)
+    given-side = and-both _ _ (a .wires .matched .is t below) .0
 
     pub signal-below : s < 2 * f .channels
     signal-below = rw signal-is below
@@ -168,7 +166,7 @@ module _ {f : Netlist} {order : List ℕ} {i n s k pa pb pc : ℕ} (l : Place f 
 
     module _ {state choices before now : List ℕ} (o : Found f order state choices before now i) (room : 2 * f .channels ≤ length before) where
       there : (x : ℕ) → x < f .channels → There now x
-      there x b = record { few = omega (arith, a .fewChannels); room = omega (arith, o .long); flag = o .flags x b }
+      there x b = record { room = omega (arith, o .long); flag = o .flags x b }
 
       seen-near : (m : Near) → seenAt now pa pb pc m ≡ near (rowOf f (e / 3)) (λ s. getD now s 0) m
       seen-near offerA = rw (ports-are .0)
@@ -184,8 +182,8 @@ module _ {f : Netlist} {order : List ℕ} {i n s k pa pb pc : ℕ} (l : Place f 
           (reads-only (kind (rowOf f (e / 3))) (endPort e) (componentAt f state choices (e / 3)) (seenAt now pa pb pc) (near (rowOf f (e / 3)) (λ s. getD now s 0)) (λ m u. seen-near m)
           ∙ value-next f ends order a state choices order (a .wires .sorted) (λ s. getD now s 0) i h (o .found))
 
-      pub readable : ((s : ℕ) → s < 2 * f .channels → value f state choices s ≤ 8) → length (rowOf f k) ≡ 24 → length (cell state k) ≡ 64 →
-          Readable n now (rowOf f k) (cell state k) (getD choices k 0) pa pb pc
+      pub readable : ((s : ℕ) → s < 2 * f .channels → value f state choices s ≤ 8) → rowSize * k + rowSize ≤ length (f .table) → length (cell state k) ≡ cellSize →
+          Readable n now (f .table) k (cell state k) (getD choices k 0) pa pb pc
       readable small rows cells = record {
         rows = rows;
         cells = cells;

@@ -11,11 +11,11 @@ use Rattle.order.specs.Graph.{Depends, Sorted}
 use Rattle.order.proofs.Values.{sorted-no-circle, val-rule, val-unique, val-next}
 use Rattle.component.specs.Kind.{Port, A, B, C, portOf, portUse, isOutput, isInput}
 use Rattle.component.specs.Row.{kind, port}
-use Rattle.netlist.specs.Netlist.{Netlist, rowOf}
 use Rattle.wiring.specs.Ends.{endPort}
 use Rattle.wiring.specs.Signals.{Near, offerA, offerB, takeB, takeC, dependsOn, has, signalOf, nearOf, endOf, dependence}
-use Rattle.rules.proofs.Rules.{reads-only}
+use Rattle.netlist.specs.Netlist.{Netlist, rowOf}
 use Rattle.netlist.specs.Accepted.{AcceptedFabric}
+use Rattle.rules.proofs.Rules.{reads-only}
 use Rattle.signals.specs.Signals.{componentAt, near, ruleAt, ruleOf, value, along}
 
 module _ (f : Netlist) (ends order : List ℕ) (a : AcceptedFabric f ends order) where

@@ -8,9 +8,9 @@ use Rattle.digits.specs.UpTo.{upTo}
 use Rattle.order.specs.Values.{val}
 use Rattle.component.specs.Kind.{Port}
 use Rattle.component.specs.Row.{kind}
-use Rattle.netlist.specs.Netlist.{Netlist, rowOf}
 use Rattle.wiring.specs.Ends.{endPort}
 use Rattle.wiring.specs.Signals.{Near, signalOf, endOf}
+use Rattle.netlist.specs.Netlist.{Netlist, rowOf}
 use Rattle.cells.specs.Cells.{cell}
 use Rattle.rules.specs.Rules.{Component, componentWith, rule, when}
 

@@ -2,19 +2,22 @@
 // then its take.
 ghost use mathlib.Core.Path.{_≡_};
 ghost use mathlib.Core.List.{_++_};
-ghost use Prim.Native.Nat.{_+_, _*_, _≤_, _<_};
+ghost use Prim.Native.Nat.{ℕ, _+_, _*_, _≤_, _<_};
 ghost use lib.ListN.{length, getD, drop};
 ghost use Rattle.digits.specs.UpTo.{upTo};
+ghost use Rattle.record.specs.Table.{row};
 ghost use Rattle.netlist.specs.Netlist.{netlistOf};
-ghost use Rattle.rules.specs.Rules.{offerNumber, bit, when, offered, componentWith};
+ghost use Rattle.rules.specs.Rules.{offerNumber, bit, offered, componentWith};
 ghost use Rattle.rules.specs.Seen.{ruleNumbered};
 ghost use Rattle.signals.specs.Signals.{value};
-ghost use Rattle.signals.specs.Channels.{seenAt, movedIn, Readable, Ready};
+ghost use Rattle.signals.specs.Channels.{seenAt, movedIn, There, Readable, Ready};
+use cells::CELL_SIZE;
 use netlist::Size;
 use rules::Channel;
 use rules::Offer;
+use rules::byte_of_offer;
 
-fn bit_of(t: bool) -> u8
+pub fn bit_of(t: bool) -> u8
     ensures { λ r. ⌜ r ≡ bit t ⌝ }
 {
     if t {
@@ -25,7 +28,7 @@ fn bit_of(t: bool) -> u8
 
 // The offer on channel x.
 fn offer_at(signals: &[u8], x: usize) -> Offer
-    requires { ⌜ (x < 256) × (2 * x + 1 < length (now signals)) ⌝ }
+    requires { ⌜ 2 * x + 1 < length (now signals) ⌝ }
     ensures { λ r. ⌜ offerNumber r ≡ getD (now (signals .entry)) (2 * x) 0 ⌝ }
 {
     rules::offer_of_byte(signals[2 * x])
@@ -33,15 +36,15 @@ fn offer_at(signals: &[u8], x: usize) -> Offer
 
 // Whether channel x is taken.
 fn take_at(signals: &[u8], x: usize) -> bool
-    requires { ⌜ (x < 256) × (2 * x + 1 < length (now signals)) ⌝ }
+    requires { ⌜ 2 * x + 1 < length (now signals) ⌝ }
     ensures { λ r. ⌜ bit r ≡ offered (getD (now (signals .entry)) (2 * x + 1) 0) ⌝ }
 {
     signals[2 * x + 1] != 0
 }
 
 // The two signals of channel x.
-fn channel_at(signals: &[u8], x: usize) -> Channel
-    requires { ⌜ (x < 256) × (2 * x + 1 < length (now signals)) ⌝ }
+pub fn channel_at(signals: &[u8], x: usize) -> Channel
+    requires { ⌜ 2 * x + 1 < length (now signals) ⌝ }
     ensures { λ r. ⌜ (offerNumber (r .offer) ≡ getD (now (signals .entry)) (2 * x) 0) × (bit (r .take) ≡ offered (getD (now (signals .entry)) (2 * x + 1) 0)) ⌝ }
 {
     let o = offer_at(signals, x);
@@ -49,105 +52,62 @@ fn channel_at(signals: &[u8], x: usize) -> Channel
     Channel { offer: o, take: t }
 }
 
-// What moves on a channel: 0, or 1 + the colour.
-fn moved_on(c: Channel) -> u8
-    ensures { λ r. ⌜ (offerNumber (c .offer) ≤ 255 → r ≡ when (bit (c .take)) (offerNumber (c .offer))) ⌝ }
+// What moves on channel x: 0, or 1 + the colour. Without a branch, so that it takes the same time either way.
+pub fn moved_on(signals: &[u8], x: usize) -> u8
+    requires { ⌜ There (now signals) x ⌝ }
+    ensures { λ r. ⌜ r ≡ movedIn (now (signals .entry)) x ⌝ }
 {
-    let o = c.offer;
-    if c.take {
-        return rules::byte_of_offer(o);
-    }
-    0
+    let offer = signals[2 * x];
+    let take = signals[2 * x + 1];
+    offer * take
 }
 
-// The signal that a rule gives, from its component and the channels at the component's ports.
+// The signal that a rule gives, from its component and the channels at the component's ports: what rules read is read first.
 fn signal(
     rule: u16,
     signals: &[u8],
-    row: &[u8],
+    table: &[u8],
+    k: usize,
     cell: &[u8],
     pick: u8,
     pa: usize,
     pb: usize,
     pc: usize,
 ) -> u8
-    requires { ⌜ Readable rule (now signals) (now row) (now cell) pick pa pb pc ⌝ }
-    ensures { λ r. ⌜ r ≡ ruleNumbered rule (componentWith (now (row .entry)) (now (cell .entry)) pick) (seenAt (now (signals .entry)) pa pb pc) ⌝ }
+    requires { ⌜ Readable rule (now signals) (now table) k (now cell) pick pa pb pc ⌝ }
+    ensures { λ r. ⌜ r ≡ ruleNumbered rule (componentWith (row (now (table .entry)) k) (now (cell .entry)) pick) (seenAt (now (signals .entry)) pa pb pc) ⌝ }
 {
+    let oa = offer_at(signals, pa);
+    let ob = offer_at(signals, pb);
+    let tb = take_at(signals, pb);
+    let tc = take_at(signals, pc);
     match rule {
         // Source.
-        0 => rules::byte_of_offer(rules::source_offer(cell, pick)),
+        0 => byte_of_offer(rules::source_offer(cell, pick)),
         // Sink.
         3 => bit_of(rules::sink_take(cell, pick)),
         // Queue.
-        6 => bit_of(rules::queue_take(row, cell)),
-        7 => rules::byte_of_offer(rules::queue_offer(cell)),
+        6 => bit_of(rules::queue_take(table, k, cell)),
+        7 => byte_of_offer(rules::queue_offer(cell)),
         // Function.
-        9 => bit_of(take_at(signals, pb)),
-        10 => rules::byte_of_offer(rules::map_from(row, 4, offer_at(signals, pa))),
+        9 => bit_of(tb),
+        10 => byte_of_offer(rules::map_from(table, k, false, oa)),
         // Fork.
-        12 => bit_of(rules::both(take_at(signals, pb), take_at(signals, pc))),
-        13 => rules::byte_of_offer(rules::fork_offer(
-            row,
-            1,
-            offer_at(signals, pa),
-            take_at(signals, pb),
-            take_at(signals, pc),
-        )),
-        14 => rules::byte_of_offer(rules::fork_offer(
-            row,
-            2,
-            offer_at(signals, pa),
-            take_at(signals, pb),
-            take_at(signals, pc),
-        )),
+        12 => bit_of(rules::both(tb, tc)),
+        13 => byte_of_offer(rules::fork_offer(table, k, 1, oa, tb, tc)),
+        14 => byte_of_offer(rules::fork_offer(table, k, 2, oa, tb, tc)),
         // Join.
-        15 => bit_of(rules::join_take(
-            0,
-            offer_at(signals, pa),
-            offer_at(signals, pb),
-            take_at(signals, pc),
-        )),
-        16 => bit_of(rules::join_take(
-            1,
-            offer_at(signals, pa),
-            offer_at(signals, pb),
-            take_at(signals, pc),
-        )),
-        17 => rules::byte_of_offer(rules::join_offer(
-            row,
-            offer_at(signals, pa),
-            offer_at(signals, pb),
-        )),
+        15 => bit_of(rules::join_take(0, oa, ob, tc)),
+        16 => bit_of(rules::join_take(1, oa, ob, tc)),
+        17 => byte_of_offer(rules::join_offer(table, k, oa, ob)),
         // Switch.
-        18 => bit_of(rules::switch_take(
-            row,
-            offer_at(signals, pa),
-            take_at(signals, pb),
-            take_at(signals, pc),
-        )),
-        19 => rules::byte_of_offer(rules::switch_offer(row, 1, offer_at(signals, pa))),
-        20 => rules::byte_of_offer(rules::switch_offer(row, 2, offer_at(signals, pa))),
+        18 => bit_of(rules::switch_take(table, k, oa, tb, tc)),
+        19 => byte_of_offer(rules::switch_offer(table, k, 1, oa)),
+        20 => byte_of_offer(rules::switch_offer(table, k, 2, oa)),
         // Merge.
-        21 => bit_of(rules::merge_take(
-            pick,
-            0,
-            offer_at(signals, pa),
-            offer_at(signals, pb),
-            take_at(signals, pc),
-        )),
-        22 => bit_of(rules::merge_take(
-            pick,
-            1,
-            offer_at(signals, pa),
-            offer_at(signals, pb),
-            take_at(signals, pc),
-        )),
-        _ => rules::byte_of_offer(rules::merge_offer(
-            pick,
-            offer_at(signals, pa),
-            offer_at(signals, pb),
-        )),
+        21 => bit_of(rules::merge_take(pick, 0, oa, ob, tc)),
+        22 => bit_of(rules::merge_take(pick, 1, oa, ob, tc)),
+        _ => byte_of_offer(rules::merge_offer(pick, oa, ob)),
     }
 }
 
@@ -184,14 +144,13 @@ pub fn evaluate(
         let place = plan::place_at(plan, i);
         let s = place.signal;
         let k = place.component;
-        let row_at = 24 * k;
-        let cell_at = 64 * k;
-        let row_end = row_at + 24;
-        let cell_end = cell_at + 64;
+        let cell_at = CELL_SIZE * k;
+        let cell_end = cell_at + CELL_SIZE;
         let v = signal(
             place.rule,
             &signals[..],
-            &table[row_at..row_end],
+            table,
+            k,
             &state[cell_at..cell_end],
             choices[k],
             place.a,
@@ -205,12 +164,12 @@ pub fn evaluate(
 
 // Writes what moves on each of the first m channels.
 pub fn write_moves(signals: &[u8], m: usize, moves: &mut [u8])
-    requires { ⌜ (m ≤ 255) × (2 * m ≤ length (now signals)) × (m ≤ length (now moves)) ⌝ }
+    requires { ⌜ ((x : ℕ) → x < m → There (now signals) x) × (m ≤ length (now moves)) ⌝ }
     ensures { λ _. ⌜ now (moves .exit) ≡ upTo m (movedIn (now (signals .entry))) ++ drop m (now (moves .entry)) ⌝ }
 {
     let mut x: usize = 0;
     while x < m {
-        moves[x] = moved_on(channel_at(signals, x));
+        moves[x] = moved_on(signals, x);
         x += 1;
     }
 }

@@ -1,18 +1,16 @@
 -- Laws of the loops that write the state at start. Assumes nothing.
 use mathlib.Core.Path.{_≡_, refl, sym, ap, _∙_}
 use mathlib.Core.List.{List, [], _∷_, _++_}
-use Prim.Native.Nat.{ℕ, zero, suc, _+_, _-_, _*_, _≤_, _<_}
+use Prim.Native.Nat.{ℕ, suc, _+_, _-_, _≤_, _<_}
 use native.Mathlib.Omega.{arith}
 use native.Mathlib.Numerals.{add-one}
-use native.Mathlib.Nat.{add-zero}
-use lib.Dec.{lit<}
 use lib.ListN.{length, getD, drop, set, replicate, length-replicate, replicate-append-replicate}
 use lib.Seq.{set-at, drop-cons, append-snoc, drop-length}
-use Rattle.record.proofs.Table.{row-at}
 use Rattle.component.specs.Kind.{queue, kindOf}
+use Rattle.component.specs.Row.{kindNumber, filling, fillColour}
+use Rattle.component.proofs.ByKind.{no-queue}
 use Rattle.netlist.specs.Netlist.{Netlist, rowOf}
-use Rattle.component.specs.Row.{filling, fillColour}
-use Rattle.cells.specs.Cells.{cellWith}
+use Rattle.cells.specs.Cells.{cellWith, cellSize}
 use Rattle.cells.specs.Start.{startCell, startAt}
 use Rattle.start.specs.Startable.{Startable}
 
@@ -25,7 +23,7 @@ clear-turn s j h =
     more : (n c : ℕ) → replicate n c ++ (c ∷ []) ≡ replicate (suc n) c
     more n c = replicate-append-replicate n 1 c ∙ ap (λ (m : ℕ). replicate m c) (add-one n)
 
-pub all-gone : (s : List ℕ) → length s ≡ 64 → drop 64 s ≡ []
+pub all-gone : (s : List ℕ) → length s ≡ cellSize → drop cellSize s ≡ []
 all-gone s h = ap (λ (n : ℕ). drop n s) (sym h) ∙ drop-length s
 
 -- the count, j colours, zeros
@@ -48,30 +46,16 @@ unfolding cellWith
 filled-all n c = rw length-replicate
 
 -- a component that is no queue starts with zeros
-pub start-rest : (k : ℕ) (row : List ℕ) → (k ≡ 2 → ⊥) → replicate 64 0 ≡ startCell (kindOf k) row
-unfolding startCell kindOf
-start-rest zero row h = refl
-start-rest (suc zero) row h = refl
-start-rest (suc (suc zero)) row h = absurd (h refl)
-start-rest (suc (suc (suc zero))) row h = refl
-start-rest (suc (suc (suc (suc zero)))) row h = refl
-start-rest (suc (suc (suc (suc (suc zero))))) row h = refl
-start-rest (suc (suc (suc (suc (suc (suc zero)))))) row h = refl
-start-rest (suc (suc (suc (suc (suc (suc (suc k))))))) row h = refl
+pub start-rest : (k : ℕ) (row : List ℕ) → (k ≡ 2 → ⊥) → replicate cellSize 0 ≡ startCell (kindOf k) row
+unfolding startCell
+start-rest k row = no-queue (λ d. replicate cellSize 0 ≡ startCell d row) refl refl refl refl refl refl refl k
 
--- one turn of `write_start`, over plain lists
-module _ (f : Netlist) {state : List ℕ} (k : ℕ) (z : Startable (f .table) (f .components) state) (h : k < f .components) where
-  field : (i : ℕ) → i < 24 → getD (f .table) (24 * k + i) 0 ≡ getD (rowOf f k) i 0
-  field i l = sym (row-at (f .table) k i l)
+-- one turn of `write_start`, over plain lists: x, n and c are the fields that were read
+module _ (f : Netlist) {state : List ℕ} (k : ℕ) (z : Startable (f .table) (f .components) state) (h : k < f .components)
+    {x n c : ℕ} (ex : x ≡ kindNumber (rowOf f k)) (en : n ≡ filling (rowOf f k)) (ec : c ≡ fillColour (rowOf f k)) where
+  pub filling-fits : kindOf x ≡ queue → n ≤ 63
+  filling-fits e = rw en (z .fillings k h (ap kindOf (sym ex) ∙ e))
 
-  kind-at : getD (f .table) (24 * k) 0 ≡ getD (rowOf f k) 0 0
-  kind-at = rw add-zero at (field 0 (lit< tt))
-
-  pub filling-fits : kindOf (getD (f .table) (24 * k) 0) ≡ queue → getD (f .table) (24 * k + 22) 0 ≤ 63
-  filling-fits e = rw (field 22 (lit< tt)) (z .fillings k h (rw kind-at at e))
-
-  pub start-is : (new : List ℕ) →
-      ((row : List ℕ) → filling row ≡ getD (f .table) (24 * k + 22) 0 → fillColour row ≡ getD (f .table) (24 * k + 23) 0 → new ≡ startCell (kindOf (getD (f .table) (24 * k) 0)) row) →
-      new ≡ startAt f k
+  pub start-is : (new : List ℕ) → ((row : List ℕ) → filling row ≡ n → fillColour row ≡ c → new ≡ startCell (kindOf x) row) → new ≡ startAt f k
   unfolding startAt
-  start-is new is = rw kind-at at (is (rowOf f k) (sym (field 22 (lit< tt))) (sym (field 23 (lit< tt))))
+  start-is new is = is (rowOf f k) (sym en) (sym ec) ∙ ap (λ (i : ℕ). startCell (kindOf i) (rowOf f k)) ex

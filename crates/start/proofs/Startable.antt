@@ -5,9 +5,10 @@ use native.Mathlib.Omega.{arith}
 use lib.ListN.{length}
 use Rattle.netlist.specs.Netlist.{Netlist}
 use Rattle.netlist.specs.Accepted.{AcceptedFabric}
+use Rattle.cells.specs.Cells.{cellSize}
 use Rattle.start.specs.Startable.{Startable}
 
-pub startable : (f : Netlist) (ends order : List ℕ) → AcceptedFabric f ends order → (state : List ℕ) → 64 * f .components ≤ length state → Startable (f .table) (f .components) state
+pub startable : (f : Netlist) (ends order : List ℕ) → AcceptedFabric f ends order → (state : List ℕ) → cellSize * f .components ≤ length state → Startable (f .table) (f .components) state
 startable f ends order a state l = record {
   few = a .fewRows;
   rows = omega (arith, a .long);

@@ -6,18 +6,19 @@ ghost use lib.ListN.{length, replicate};
 ghost use Rattle.component.specs.Kind.{queue, kindOf};
 ghost use Rattle.component.specs.Row.{filling, fillColour};
 ghost use Rattle.netlist.specs.Netlist.{netlistOf};
-ghost use Rattle.cells.specs.Cells.{cellWith};
+ghost use Rattle.cells.specs.Cells.{cellWith, cellSize};
 ghost use Rattle.cells.specs.Start.{startCell, started};
 ghost use Rattle.start.specs.Startable.{Startable};
+use cells::CELL_SIZE;
 use netlist::Size;
 
 // Nothing held.
 fn clear(cell: &mut [u8])
-    requires { ⌜ length (now cell) ≡ 64 ⌝ }
-    ensures { λ _. ⌜ now (cell .exit) ≡ replicate 64 0 ⌝ }
+    requires { ⌜ length (now cell) ≡ cellSize ⌝ }
+    ensures { λ _. ⌜ now (cell .exit) ≡ replicate cellSize 0 ⌝ }
 {
     let mut j: usize = 0;
-    while j < 64 {
+    while j < CELL_SIZE {
         cell[j] = 0;
         j += 1;
     }
@@ -25,7 +26,7 @@ fn clear(cell: &mut [u8])
 
 // A filling of n times colour c.
 fn fill(cell: &mut [u8], n: u8, c: u8)
-    requires { ⌜ (now cell ≡ replicate 64 0) × (n ≤ 63) ⌝ }
+    requires { ⌜ (now cell ≡ replicate cellSize 0) × (n ≤ 63) ⌝ }
     ensures { λ _. ⌜ now (cell .exit) ≡ cellWith (replicate n c) ⌝ }
 {
     let count = n as usize;
@@ -39,7 +40,7 @@ fn fill(cell: &mut [u8], n: u8, c: u8)
 
 // A component's bytes at start.
 fn start_cell(kind: u8, n: u8, c: u8, cell: &mut [u8])
-    requires { ⌜ (length (now cell) ≡ 64) × (kindOf kind ≡ queue → n ≤ 63) ⌝ }
+    requires { ⌜ (length (now cell) ≡ cellSize) × (kindOf kind ≡ queue → n ≤ 63) ⌝ }
     ensures { λ _. ⌜ ((row : List ℕ) → filling row ≡ n → fillColour row ≡ c → now (cell .exit) ≡ startCell (kindOf kind) row) ⌝ }
 {
     clear(&mut *cell);
@@ -55,12 +56,11 @@ pub fn write_start(table: &[u8], size: Size, state: &mut [u8])
 {
     let mut k: usize = 0;
     while k < size.components {
-        let f = 24 * k;
-        let kind = table[f];
-        let n = table[f + 22];
-        let c = table[f + 23];
-        let g = 64 * k;
-        let h = g + 64;
+        let kind = component::kind(table, k);
+        let n = component::filling(table, k);
+        let c = component::fill_colour(table, k);
+        let g = CELL_SIZE * k;
+        let h = g + CELL_SIZE;
         start_cell(kind, n, c, &mut state[g..h]);
         k += 1;
     }

@@ -7,19 +7,19 @@ use lib.Dec.{ltb, lit<}
 use lib.ListN.{getD}
 use Rattle.order.specs.Values.{val}
 use Rattle.component.specs.Kind.{Kind, source, sink, queue, function, fork, join, switch, merge, Port, A, B, C}
-use Rattle.netlist.specs.Netlist.{Netlist, rowOf}
 use Rattle.component.specs.Row.{kind, firstMap, secondMap, capacity}
 use Rattle.wiring.specs.Ends.{endPort}
 use Rattle.wiring.specs.Signals.{Near, offerA, offerB, takeB, takeC, endOf}
+use Rattle.netlist.specs.Netlist.{Netlist, rowOf}
+use Rattle.cells.proofs.Choices.{source-choice}
+use Rattle.cells.proofs.Good.{emitted-le, source-held, queue-colour}
 use Rattle.rules.specs.Rules.{when, Component, held, rule}
 use Rattle.rules.proofs.Bounds.{when-le, unless-le, either-le, orElse-le, offered-le, bit-le, mapped-le}
-use Rattle.signals.proofs.Signals.{giver}
 use Rattle.plan.specs.Plan.{Planned}
 use Rattle.signals.specs.Channels.{Ready}
 use Rattle.signals.specs.Signals.{componentAt, near, ruleOf, value, moved}
+use Rattle.signals.proofs.Signals.{giver}
 use Rattle.state.specs.Step.{CanStep}
-use Rattle.cells.proofs.Choices.{source-choice}
-use Rattle.cells.proofs.Good.{emitted-le, source-held, queue-colour}
 
 front-le : (n v b : ℕ) → (0 < n → v < b) → when n (suc v) ≤ b
 front-le zero v b h = omega arith

@@ -1,7 +1,7 @@
 -- The state after a step, component by component; from a good state under allowed choices it is good. Assumes nothing.
-use mathlib.Core.Path.{_≡_, refl, sym, ap, _∙_}
+use mathlib.Core.Path.{_≡_, refl, ap, fun-ext}
 use mathlib.Core.Bool.{true}
-use mathlib.Core.List.{List, [], _∷_, _++_, append-nil}
+use mathlib.Core.List.{List, [], _∷_, _++_}
 use Prim.Native.Nat.{ℕ, zero, suc, _+_, _*_, _≤_, _<_}
 use native.Mathlib.Omega.{arith}
 use native.Mathlib.Numerals.{one-add}
@@ -9,70 +9,68 @@ use native.Mathlib.Decide.{decLt}
 use lib.ListN.{length, getD, take, drop, length-append, length-drop, List·getD-append}
 use lib.Seq.{getD-at, getD-drop, getD-take}
 use borrow.Author.Tests.{lt-ltb}
+use Rattle.digits.specs.UpTo.{upTo}
 use Rattle.component.specs.Kind.{Kind, source, sink, queue, function, fork, join, switch, merge, A, B}
-use Rattle.netlist.specs.Netlist.{Netlist, rowOf}
 use Rattle.component.specs.Row.{kind, port, capacity}
-use Rattle.rules.specs.Rules.{unless, offered, orElse}
-use Rattle.cells.specs.Cells.{cell, queueColours, cellWith}
-use Rattle.signals.specs.Signals.{componentAt, moved, moves}
+use Rattle.netlist.specs.Netlist.{Netlist, rowOf}
+use Rattle.cells.specs.Cells.{cell, queueColours, cellWith, cellSize}
 use Rattle.cells.specs.Good.{emitted, goodByte, goodCell, Good}
-use Rattle.state.specs.Step.{dropped, appended, cellNext, nextAt, stateNext, next, CanStep}
-use Rattle.state.proofs.Bounds.{moved-le}
 use Rattle.cells.proofs.Cells.{cells-long, cells-at, cells-same, queue-length, queue-count, cell-queue}
 use Rattle.cells.proofs.Choices.{source-choice}
 use Rattle.cells.proofs.Good.{all-of, cell-long, good-byte, source-held, queue-count-le, queue-colour, queue-whole, Below, queue-good}
-use Rattle.state.proofs.Transfers.{move-is}
+use Rattle.rules.specs.Rules.{unless, offered, orElse}
+use Rattle.rules.proofs.Bounds.{unless-le, offered-le}
+use Rattle.signals.specs.Signals.{componentAt, value, moved}
+use Rattle.signals.proofs.Moves.{signal-is}
+use Rattle.state.specs.Step.{dropped, appended, cellNext, offerOf, takeOf, nextAt, stateNext, next, CanStep}
+use Rattle.state.proofs.Bounds.{moved-le}
+use Rattle.state.proofs.Transfers.{source-offers, sink-takes}
 use Rattle.state.proofs.Updatable.{dropped-le, roomy, queue-moves}
 
 pub appended-length : (m : ℕ) (cs : List ℕ) → length (appended m cs) ≡ length cs + offered m
 appended-length zero cs = omega arith
 appended-length (suc d) cs = length-append cs (d ∷ [])
 
-held-long : (s : List ℕ) (b : ℕ) → length s ≡ 64 → length (b ∷ drop 1 s) ≡ 64
+held-long : (s : List ℕ) (b : ℕ) → length s ≡ cellSize → length (b ∷ drop 1 s) ≡ cellSize
 held-long s b h = simp length-drop (omega arith)
 
 module _ (f : Netlist) (ends order state choices : List ℕ) (t : CanStep f ends order state choices) where
-  -- component k after the step, from what moved at its ports
-  at-ports : (rest : List ℕ) (k : ℕ) → k < f .components → nextAt f state choices (moves f state choices ++ rest) k ≡
-      cellNext (kind (rowOf f k)) (componentAt f state choices k) (moved f state choices (port (rowOf f k) A)) (moved f state choices (port (rowOf f k) B))
-  unfolding nextAt
-  at-ports rest k h = rw (move-is f ends order (t .accepted) state choices k h rest A, move-is f ends order (t .accepted) state choices k h rest B)
-
-  pub next-is : (k : ℕ) → k < f .components → nextAt f state choices (moves f state choices) k ≡
-      cellNext (kind (rowOf f k)) (componentAt f state choices k) (moved f state choices (port (rowOf f k) A)) (moved f state choices (port (rowOf f k) B))
-  next-is k h = rw append-nil at (at-ports [] k h)
-
-  -- what stands behind the moves does not matter
-  pub next-state : (rest : List ℕ) → stateNext f state choices (moves f state choices ++ rest) ≡ next f state choices
-  unfolding next stateNext
-  next-state rest =
-      ap (λ (l : List ℕ). l ++ drop (64 * f .components) state)
-      (cells-same (nextAt f state choices (moves f state choices ++ rest)) (nextAt f state choices (moves f state choices)) (f .components) (λ k h. at-ports rest k h ∙ sym (next-is k h)))
+  -- from the signals in memory, whatever stands behind them
+  pub next-from : (signals rest : List ℕ) → signals ≡ upTo (2 * f .channels) (value f state choices) ++ rest → stateNext f state choices (λ s. getD signals s 0) ≡ next f state choices
+  unfolding next stateNext nextAt
+  next-from signals rest e = ap (λ (l : List ℕ). l ++ drop (cellSize * f .components) state) (cells-same _ _ (f .components) same)
+    where
+      same : (k : ℕ) → k < f .components → nextAt f state choices (λ s. getD signals s 0) k ≡ nextAt f state choices (value f state choices) k
+      same k h =
+          let i = signal-is f state choices signals rest e in
+          let o : offerOf (rowOf f k) (λ s. getD signals s 0) ≡ offerOf (rowOf f k) (value f state choices) = fun-ext (λ p. i _ (omega (arith, t .accepted .rows k h .ports p))) in
+          let g : takeOf (rowOf f k) (λ s. getD signals s 0) ≡ takeOf (rowOf f k) (value f state choices) = fun-ext (λ p. i _ (omega (arith, t .accepted .rows k h .ports p))) in
+          rw (o, g)
 
   -- a queue's colours after the step are at most 63
   pub queue-fits : (k : ℕ) → k < f .components → kind (rowOf f k) ≡ queue →
       length (appended (moved f state choices (port (rowOf f k) A)) (dropped (moved f state choices (port (rowOf f k) B)) (queueColours (cell state k)))) ≤ 63
   queue-fits k h e = rw appended-length (queue-moves f ends order state choices t k h e .room)
 
-  next-long : (k : ℕ) → k < f .components → length (nextAt f state choices (moves f state choices) k) ≡ 64
-  unfolding cellNext
-  next-long k h = rw (next-is k h) (go (kind (rowOf f k)) refl)
+  next-long : (k : ℕ) → k < f .components → length (nextAt f state choices (value f state choices) k) ≡ cellSize
+  unfolding nextAt cellNext moved
+  next-long k h = go (kind (rowOf f k)) refl
     where
-      long : length (cell state k) ≡ 64
+      long : length (cell state k) ≡ cellSize
       long = cell-long state k (f .components) (t .good .long) h
 
-      ma : ℕ
-      ma = moved f state choices (port (rowOf f k) A)
+      offer : ℕ
+      offer = value f state choices (2 * port (rowOf f k) A)
+
+      taken : ℕ
+      taken = value f state choices (2 * port (rowOf f k) A + 1)
 
       after : List ℕ
-      after = appended ma (dropped (moved f state choices (port (rowOf f k) B)) (queueColours (cell state k)))
+      after = appended (moved f state choices (port (rowOf f k) A)) (dropped (moved f state choices (port (rowOf f k) B)) (queueColours (cell state k)))
 
-      held : ℕ
-      held = orElse (getD (cell state k) 0 0) (getD choices k 0)
-
-      go : (d : Kind) → kind (rowOf f k) ≡ d → length (cellNext d (componentAt f state choices k) (moved f state choices (port (rowOf f k) A)) (moved f state choices (port (rowOf f k) B))) ≡ 64
-      go source e = held-long (cell state k) (unless ma held) long
-      go sink e = held-long (cell state k) (unless ma (offered held)) long
+      go : (d : Kind) → kind (rowOf f k) ≡ d → length (cellNext d (componentAt f state choices k) (offerOf (rowOf f k) (value f state choices)) (takeOf (rowOf f k) (value f state choices))) ≡ cellSize
+      go source e = held-long (cell state k) (unless taken offer) long
+      go sink e = held-long (cell state k) (unless (offered offer) taken) long
       go queue e = queue-length (cellWith after) (cell-queue after (queue-fits k h e))
       go function e = long
       go fork e = long
@@ -80,14 +78,13 @@ module _ (f : Netlist) (ends order state choices : List ℕ) (t : CanStep f ends
       go switch e = long
       go merge e = long
 
-  pub next-cell : (k : ℕ) → k < f .components → cell (next f state choices) k ≡
-      cellNext (kind (rowOf f k)) (componentAt f state choices k) (moved f state choices (port (rowOf f k) A)) (moved f state choices (port (rowOf f k) B))
+  pub next-cell : (k : ℕ) → k < f .components → cell (next f state choices) k ≡ nextAt f state choices (value f state choices) k
   unfolding next stateNext
-  next-cell k h = cells-at (nextAt f state choices (moves f state choices)) (f .components) next-long (drop (64 * f .components) state) k h ∙ next-is k h
+  next-cell k h = cells-at (nextAt f state choices (value f state choices)) (f .components) next-long (drop (cellSize * f .components) state) k h
 
   pub next-length : length (next f state choices) ≡ length state
   unfolding next stateNext
-  next-length = rw (length-append, cells-long (nextAt f state choices (moves f state choices)) (f .components) next-long, length-drop) (omega (arith, t .good .long))
+  next-length = rw (length-append, cells-long (nextAt f state choices (value f state choices)) (f .components) next-long, length-drop) (omega (arith, t .good .long))
 
 below-dropped : (c m : ℕ) (cs : List ℕ) → Below c cs → Below c (dropped m cs)
 below-dropped c zero cs b = b
@@ -109,9 +106,7 @@ unless-emitted r zero zero b h k = k
 unless-emitted r zero (suc a) b h k = h
 
 unless-small : (m a : ℕ) → unless m (offered a) < 2
-unless-small (suc m) a = omega arith
-unless-small zero zero = omega arith
-unless-small zero (suc a) = omega arith
+unless-small m a = omega (arith, unless-le m (offered a) 1 (offered-le a 1 (omega arith)))
 
 room-for : (n c m : ℕ) → n ≤ c → (0 < m → n < c) → n + offered m ≤ c
 room-for n c zero h f = omega arith
@@ -138,7 +133,7 @@ module _ (f : Netlist) (ends order state choices : List ℕ) (t : CanStep f ends
           let m : j < 63 = omega (arith, n, queue-count-le f state (t .good) k h e, t .accepted .rows k h .capacities e) in
           rw (getD-take (getD (cell state k) 0 0) (drop 1 (cell state k)) j 0 n, getD-drop 1 (cell state k) j 0, one-add) (queue-colour f state (t .good) k h e j m n)
 
-  queue-kept : kind (rowOf f k) ≡ queue → (j : ℕ) → j < 64 →
+  queue-kept : kind (rowOf f k) ≡ queue → (j : ℕ) → j < cellSize →
       goodByte queue (rowOf f k) (f .colours) (getD (cellWith (appended ma (dropped mb (queueColours (cell state k))))) 0 0) j (getD (cellWith (appended ma (dropped mb (queueColours (cell state k))))) j 0) ≡ true
   queue-kept e j l =
       let cs = queueColours (cell state k) in
@@ -150,12 +145,17 @@ module _ (f : Netlist) (ends order state choices : List ℕ) (t : CanStep f ends
       queue-good (rowOf f k) (f .colours) (appended ma (dropped mb cs)) room (omega (arith, room, t .accepted .rows k h .capacities e))
       (below-appended (f .colours) ma (dropped mb cs) (moved-le f ends order state choices t _ (t .accepted .rows k h .ports A)) (below-dropped (f .colours) mb cs (queue-below e))) j l
 
-  kept : (d : Kind) → kind (rowOf f k) ≡ d → (j : ℕ) → j < 64 →
-      goodByte d (rowOf f k) (f .colours) (getD (cellNext d (componentAt f state choices k) ma mb) 0 0) j (getD (cellNext d (componentAt f state choices k) ma mb) j 0) ≡ true
-  unfolding goodByte cellNext
-  kept source e zero l = unless-emitted (rowOf f k) ma (getD (cell state k) 0 0) (getD choices k 0) (source-held f state (t .good) k h e) (source-choice f choices (t .allowed) k h e)
+  -- its bytes after the step
+  abbrev after : Kind → List ℕ
+  after d = cellNext d (componentAt f state choices k) (offerOf (rowOf f k) (value f state choices)) (takeOf (rowOf f k) (value f state choices))
+
+  kept : (d : Kind) → kind (rowOf f k) ≡ d → (j : ℕ) → j < cellSize → goodByte d (rowOf f k) (f .colours) (getD (after d) 0 0) j (getD (after d) j 0) ≡ true
+  unfolding goodByte cellNext moved
+  kept source e zero l =
+      rw (source-offers f ends order (t .accepted) state choices k h e)
+      (unless-emitted (rowOf f k) (value f state choices (2 * port (rowOf f k) A + 1)) (getD (cell state k) 0 0) (getD choices k 0) (source-held f state (t .good) k h e) (source-choice f choices (t .allowed) k h e))
   kept source e (suc j) l = rw (getD-drop, one-add) (rw e at (good-byte f state (t .good) k h (suc j) l))
-  kept sink e zero l = lt-ltb _ _ (unless-small ma (orElse (getD (cell state k) 0 0) (getD choices k 0)))
+  kept sink e zero l = rw (sink-takes f ends order (t .accepted) state choices k h e) (lt-ltb _ _ (unless-small (offered (value f state choices (2 * port (rowOf f k) A))) (orElse (getD (cell state k) 0 0) (getD choices k 0))))
   kept sink e (suc j) l = rw (getD-drop, one-add) (rw e at (good-byte f state (t .good) k h (suc j) l))
   kept queue e j l = queue-kept e j l
   kept function e j l = rw e at (good-byte f state (t .good) k h j l)
@@ -165,8 +165,8 @@ module _ (f : Netlist) (ends order state choices : List ℕ) (t : CanStep f ends
   kept merge e j l = rw e at (good-byte f state (t .good) k h j l)
 
   cell-kept : goodCell (f .colours) (rowOf f k) (cell (next f state choices) k) ≡ true
-  unfolding goodCell
-  cell-kept = rw (next-cell f ends order state choices t k h) (all-of 64 _ (kept (kind (rowOf f k)) refl))
+  unfolding goodCell nextAt
+  cell-kept = rw (next-cell f ends order state choices t k h) (all-of cellSize _ (kept (kind (rowOf f k)) refl))
 
 pub good-step : (f : Netlist) (ends order state choices : List ℕ) → CanStep f ends order state choices → Good f (next f state choices)
 good-step f ends order state choices t = record {

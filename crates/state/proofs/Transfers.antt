@@ -1,27 +1,27 @@
 -- What a transfer is, seen from the component at either end of its channel. Assumes nothing.
 use mathlib.Core.Path.{_≡_, ap}
 use mathlib.Core.Bool.{true}
-use mathlib.Core.List.{List, _++_}
+use mathlib.Core.List.{List}
 use Prim.Native.Nat.{ℕ, _+_, _*_, _<_}
-use lib.ListN.{length, getD}
-use Rattle.digits.proofs.UpTo.{length-upTo, filled-at}
-use Rattle.component.specs.Kind.{Port, portUse, isOutput, isInput}
-use Rattle.netlist.specs.Netlist.{Netlist, rowOf}
+use lib.ListN.{getD}
+use Rattle.component.specs.Kind.{source, sink, Port, A, portUse, isOutput, isInput}
 use Rattle.component.specs.Row.{kind, port}
-use Rattle.rules.specs.Rules.{when}
-use Rattle.signals.proofs.Signals.{value-output, value-input}
+use Rattle.netlist.specs.Netlist.{Netlist, rowOf}
 use Rattle.netlist.specs.Accepted.{AcceptedFabric}
-use Rattle.signals.specs.Signals.{ruleAt, value, moved, moves}
-
-pub moves-length : (f : Netlist) (state choices : List ℕ) → length (moves f state choices) ≡ f .channels
-unfolding moves
-moves-length f state choices = length-upTo (moved f state choices) (f .channels)
+use Rattle.cells.specs.Cells.{cell}
+use Rattle.rules.specs.Rules.{when, offered, orElse, rule}
+use Rattle.signals.specs.Signals.{ruleAt, value, moved}
+use Rattle.signals.proofs.Signals.{value-output, value-input}
 
 module _ (f : Netlist) (ends order : List ℕ) (a : AcceptedFabric f ends order) (state choices : List ℕ) (k : ℕ) (h : k < f .components) where
-  -- a byte of the moves, whatever stands behind them
-  pub move-is : (rest : List ℕ) (p : Port) → getD (moves f state choices ++ rest) (port (rowOf f k) p) 0 ≡ moved f state choices (port (rowOf f k) p)
-  unfolding moves
-  move-is rest p = filled-at (moved f state choices) rest 0 (f .channels) (port (rowOf f k) p) (a .rows k h .ports p)
+  -- what a source offers, and whether a sink takes
+  pub source-offers : kind (rowOf f k) ≡ source → value f state choices (2 * port (rowOf f k) A) ≡ orElse (getD (cell state k) 0 0) (getD choices k 0)
+  unfolding rule portUse
+  source-offers e = rw e at (value-output f ends order a k h A state choices (rw e))
+
+  pub sink-takes : kind (rowOf f k) ≡ sink → value f state choices (2 * port (rowOf f k) A + 1) ≡ offered (orElse (getD (cell state k) 0 0) (getD choices k 0))
+  unfolding rule portUse
+  sink-takes e = rw e at (value-input f ends order a k h A state choices (rw e))
 
   -- out of an output: what the component offers, if the channel is taken
   pub out-moves : (p : Port) → isOutput (portUse (kind (rowOf f k)) p) ≡ true →

@@ -5,19 +5,21 @@ use mathlib.Core.List.{List, _++_}
 use Prim.Native.Nat.{ℕ, zero, suc, _+_, _*_, _≤_, _<_}
 use native.Mathlib.Omega.{arith}
 use lib.Dec.{ltb}
-use lib.ListN.{length, getD, length-append, length-drop}
+use lib.ListN.{length, getD, length-drop}
 use borrow.Author.Tests.{ltb-true}
-use Rattle.component.specs.Kind.{queue, Port, A, B, portUse}
-use Rattle.netlist.specs.Netlist.{Netlist, rowOf}
+use Rattle.digits.specs.UpTo.{upTo}
+use Rattle.component.specs.Kind.{queue, A, B, portUse}
 use Rattle.component.specs.Row.{kind, port, capacity}
-use Rattle.rules.specs.Rules.{bit, when, offered, rule}
+use Rattle.netlist.specs.Netlist.{Netlist, rowOf}
 use Rattle.cells.specs.Cells.{cell, queueColours}
-use Rattle.signals.specs.Signals.{value, moved, moves}
-use Rattle.state.specs.Step.{dropped, CanStep}
-use Rattle.state.specs.Updatable.{Moves, Updatable}
 use Rattle.cells.proofs.Cells.{queue-count}
-use Rattle.cells.proofs.Good.{queue-whole}
-use Rattle.state.proofs.Transfers.{moves-length, move-is, out-moves, in-moves}
+use Rattle.cells.proofs.Good.{cell-long, queue-whole}
+use Rattle.rules.specs.Rules.{bit, when, offered, rule}
+use Rattle.signals.specs.Signals.{value, moved}
+use Rattle.signals.proofs.Moves.{moved-is, all-there}
+use Rattle.state.specs.Step.{dropped, CanStep}
+use Rattle.state.specs.Updatable.{Moves, Movable, Updatable}
+use Rattle.state.proofs.Transfers.{out-moves, in-moves}
 
 pub when-open : (g v : ℕ) → 0 < when g v → (0 < g) × (0 < v)
 when-open zero v h = absurd (omega arith)
@@ -68,18 +70,23 @@ module _ (f : Netlist) (ends order state choices : List ℕ) (t : CanStep f ends
       few : length (dropped (moved f state choices (port (rowOf f k) B)) (queueColours (cell state k))) ≤ length (queueColours (cell state k))
       few = dropped-le (moved f state choices (port (rowOf f k) B)) (queueColours (cell state k))
 
--- the moves, whatever stands behind them
-pub updatable : (f : Netlist) (ends order state choices : List ℕ) → CanStep f ends order state choices → (rest : List ℕ) → Updatable (f .table) (f .components) state choices (moves f state choices ++ rest)
-updatable f ends order state choices t rest = record {
-  few = t .accepted .fewRows;
-  rows = omega (arith, t .accepted .long);
-  states = t .good .long;
-  chosen = t .allowed .long;
-  ports = λ k h. (inside k h A, inside k h B);
-  queues = λ k h e.
-      rw (move-is f ends order (t .accepted) state choices k h rest A, move-is f ends order (t .accepted) state choices k h rest B)
-      (queue-moves f ends order state choices t k h e);
-}
-  where
-    inside : (k : ℕ) → k < f .components → (p : Port) → port (rowOf f k) p < length (moves f state choices ++ rest)
-    inside k h p = omega (arith, length-append (moves f state choices) rest, moves-length f state choices, t .accepted .rows k h .ports p)
+-- with the signals in memory, whatever stands behind them
+module _ (f : Netlist) (ends order state choices : List ℕ) (t : CanStep f ends order state choices) (signals rest : List ℕ) (e : signals ≡ upTo (2 * f .channels) (value f state choices) ++ rest) where
+  movable : (k : ℕ) → k < f .components → Movable (f .table) k (cell state k) signals
+  movable k h =
+      let inside = t .accepted .rows k h .ports in
+      let is = moved-is f state choices signals rest e in
+      record {
+        rows = omega (arith, t .accepted .long);
+        cells = cell-long state k (f .components) (t .good .long) h;
+        ports = λ p. all-there f state choices signals rest e ends order (t .accepted) (port (rowOf f k) p) (inside p);
+        queues = λ q. rw (is (port (rowOf f k) A) (inside A), is (port (rowOf f k) B) (inside B)) (queue-moves f ends order state choices t k h q);
+      }
+
+  pub updatable : Updatable (f .table) (f .components) state signals
+  updatable = record {
+    few = t .accepted .fewRows;
+    rows = omega (arith, t .accepted .long);
+    states = t .good .long;
+    each = movable;
+  }

@@ -2,12 +2,15 @@
 use mathlib.Core.Path.{_≡_}
 use mathlib.Core.List.{List}
 use Prim.Native.Nat.{ℕ, zero, suc, _+_, _*_, _≤_, _<_}
-use lib.ListN.{length, getD}
+use lib.ListN.{length}
 use Rattle.record.specs.Table.{row}
-use Rattle.component.specs.Kind.{queue, A, B}
+use Rattle.record.specs.Sizes.{rowSize}
+use Rattle.component.specs.Kind.{Port, queue, A, B}
 use Rattle.component.specs.Row.{kind, port}
+use Rattle.component.specs.Limits.{mostComponents}
+use Rattle.cells.specs.Cells.{cell, queueColours, Queue, cellSize}
 use Rattle.rules.specs.Rules.{offered}
-use Rattle.cells.specs.Cells.{cell, queueColours, Queue}
+use Rattle.signals.specs.Channels.{movedIn, There}
 use Rattle.state.specs.Step.{dropped}
 
 -- the byte behind a queue's last colour after a step: the colour that came in, or what stood there
@@ -21,12 +24,16 @@ pub record Moves (s : List ℕ) (ma mb : ℕ) : Type 0 where
   pub out : 0 < mb → 0 < length (queueColours s)
   pub room : length (dropped mb (queueColours s)) + offered ma ≤ 63
 
+-- a component's row and its bytes, with the signals at its ports in memory: what moves fits a queue
+pub record Movable (table : List ℕ) (k : ℕ) (cell signals : List ℕ) : Type 0 where
+  pub rows : rowSize * k + rowSize ≤ length table
+  pub cells : length cell ≡ cellSize
+  pub ports : (p : Port) → There signals (port (row table k) p)
+  pub queues : kind (row table k) ≡ queue → Moves cell (movedIn signals (port (row table k) A)) (movedIn signals (port (row table k) B))
+
 -- the sizes fit, and what moves fits each queue
-pub record Updatable (table : List ℕ) (n : ℕ) (state choices mv : List ℕ) : Type 0 where
-  pub few : n ≤ 128
-  pub rows : 24 * n ≤ length table
-  pub states : 64 * n ≤ length state
-  pub chosen : length choices ≡ n
-  pub ports : (k : ℕ) → k < n → (port (row table k) A < length mv) × (port (row table k) B < length mv)
-  pub queues : (k : ℕ) → k < n → kind (row table k) ≡ queue →
-      Moves (cell state k) (getD mv (port (row table k) A) 0) (getD mv (port (row table k) B) 0)
+pub record Updatable (table : List ℕ) (n : ℕ) (state signals : List ℕ) : Type 0 where
+  pub few : n ≤ mostComponents
+  pub rows : rowSize * n ≤ length table
+  pub states : cellSize * n ≤ length state
+  pub each : (k : ℕ) → k < n → Movable table k (cell state k) signals

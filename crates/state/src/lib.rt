@@ -1,30 +1,31 @@
 // The state of a fabric: what a step makes of it.
 ghost use mathlib.Core.Path.{_≡_};
 ghost use mathlib.Core.List.{List, _∷_};
-ghost use Prim.Native.Nat.{ℕ, _+_, _*_, _≤_, _<_};
+ghost use Prim.Native.Nat.{ℕ, _+_, _≤_, _<_};
 ghost use lib.ListN.{length, getD, drop};
 ghost use lib.Seq.{paste};
-ghost use Rattle.component.specs.Kind.{queue, kindOf};
+ghost use Rattle.record.specs.Table.{row};
+ghost use Rattle.component.specs.Row.{kind};
 ghost use Rattle.netlist.specs.Netlist.{netlistOf};
-ghost use Rattle.rules.specs.Rules.{unless, offered, orElse, componentWith};
-ghost use Rattle.cells.specs.Cells.{queueColours, cellWith, Queue};
-ghost use Rattle.state.specs.Step.{dropped, appended, cellNext, stateNext};
-ghost use Rattle.state.specs.Updatable.{newest, Moves, Updatable};
+ghost use Rattle.cells.specs.Cells.{queueColours, cellWith, Queue, cellSize};
+ghost use Rattle.rules.specs.Rules.{offerNumber, bit, unless, offered, componentWith};
+ghost use Rattle.state.specs.Step.{dropped, appended, cellNext, offerOf, takeOf, stateNext};
+ghost use Rattle.state.specs.Updatable.{newest, Moves, Movable, Updatable};
+use cells::CELL_SIZE;
+use digits::wide;
 use netlist::Size;
+use rules::Channel;
 use rules::HeldSink;
 use rules::HeldSource;
 use rules::byte_of_offer;
 use rules::offer_of_byte;
-
-fn wide(x: u8) -> usize
-    ensures { λ r. ⌜ r ≡ x ⌝ }
-{
-    x as usize
-}
+use signals::bit_of;
+use signals::channel_at;
+use signals::moved_on;
 
 // The bytes from 2 on move one place to the front.
 fn shift(q: &mut [u8])
-    requires { ⌜ length (now q) ≡ 64 ⌝ }
+    requires { ⌜ length (now q) ≡ cellSize ⌝ }
     ensures { λ _. ⌜ now (q .exit) ≡ paste (now (q .entry)) 1 (drop 2 (now (q .entry))) 62 ⌝ }
 {
     let mut j: usize = 0;
@@ -100,73 +101,57 @@ fn queue_next(q: &mut [u8], ma: u8, mb: u8)
 }
 
 // A source after a step: it holds its colour if it was offered and not taken.
-fn source_next(q: &mut [u8], pick: u8, ma: u8)
-    requires { ⌜ length (now q) ≡ 64 ⌝ }
-    ensures { λ _. ⌜ now (q .exit) ≡ unless ma (orElse (getD (now (q .entry)) 0 0) pick) ∷ drop 1 (now (q .entry)) ⌝ }
+fn source_next(q: &mut [u8], channel: Channel)
+    requires { ⌜ (length (now q) ≡ cellSize) × (offerNumber (channel .offer) ≤ 255) ⌝ }
+    ensures { λ _. ⌜ now (q .exit) ≡ unless (bit (channel .take)) (offerNumber (channel .offer)) ∷ drop 1 (now (q .entry)) ⌝ }
 {
     let b = q[0];
     let h = offer_of_byte(b);
-    let p = offer_of_byte(pick);
     let s = HeldSource { held: h };
-    let t = s.next(p, ma != 0);
+    let t = s.next(channel);
     let o = t.held;
     q[0] = byte_of_offer(o);
 }
 
 // A sink after a step: it holds if it took and nothing was offered.
-fn sink_next(q: &mut [u8], pick: u8, ma: u8)
-    requires { ⌜ length (now q) ≡ 64 ⌝ }
-    ensures { λ _. ⌜ now (q .exit) ≡ unless ma (offered (orElse (getD (now (q .entry)) 0 0) pick)) ∷ drop 1 (now (q .entry)) ⌝ }
+fn sink_next(q: &mut [u8], channel: Channel)
+    requires { ⌜ length (now q) ≡ cellSize ⌝ }
+    ensures { λ _. ⌜ now (q .exit) ≡ unless (offered (offerNumber (channel .offer))) (bit (channel .take)) ∷ drop 1 (now (q .entry)) ⌝ }
 {
     let b = q[0];
     let s = HeldSink { held: b != 0 };
-    let o = offer_of_byte(ma);
-    let t = s.next(pick != 0, o);
-    if t.held {
-        q[0] = 1;
-    } else {
-        q[0] = 0;
-    }
+    let t = s.next(channel);
+    q[0] = bit_of(t.held);
 }
 
-// A component's bytes after a step, where ma and mb moved at its ports A and B.
-fn cell_next(kind: u8, q: &mut [u8], pick: u8, ma: u8, mb: u8)
-    requires { ⌜ length (now q) ≡ 64 ⌝ }
-    requires { ⌜ (kindOf kind ≡ queue → Moves (now q) ma mb) ⌝ }
-    ensures { λ _. ⌜ ((row : List ℕ) → now (q .exit) ≡ cellNext (kindOf kind) (componentWith row (now (q .entry)) pick) ma mb) ⌝ }
+// A component's bytes after a step, from the signals at its ports.
+fn cell_next(table: &[u8], k: usize, q: &mut [u8], signals: &[u8])
+    requires { ⌜ Movable (now table) k (now q) (now signals) ⌝ }
+    ensures { λ _. ⌜ ((pick : ℕ) → now (q .exit) ≡ cellNext (kind (row (now (table .entry)) k)) (componentWith (row (now (table .entry)) k) (now (q .entry)) pick)
+        (offerOf (row (now (table .entry)) k) (λ s. getD (now (signals .entry)) s 0)) (takeOf (row (now (table .entry)) k) (λ s. getD (now (signals .entry)) s 0))) ⌝ }
 {
+    let kind = component::kind(table, k);
+    let a = wide(component::port(table, k, 0));
+    let b = wide(component::port(table, k, 1));
     match kind {
-        0 => source_next(&mut *q, pick, ma),
-        1 => sink_next(&mut *q, pick, ma),
-        2 => queue_next(&mut *q, ma, mb),
+        0 => source_next(&mut *q, channel_at(signals, a)),
+        1 => sink_next(&mut *q, channel_at(signals, a)),
+        2 => queue_next(&mut *q, moved_on(signals, a), moved_on(signals, b)),
         _ => {}
     }
 }
 
-// What moved at the port that stands at this place of the table.
-fn move_at(table: &[u8], at: usize, moves: &[u8]) -> u8
-    requires { ⌜ (at < length (now table)) × (getD (now table) at 0 < length (now moves)) ⌝ }
-    ensures { λ r. ⌜ r ≡ getD (now (moves .entry)) (getD (now (table .entry)) at 0) 0 ⌝ }
-{
-    moves[wide(table[at])]
-}
-
-// The state after a step, from what moved.
-pub fn update(table: &[u8], size: Size, state: &mut [u8], choices: &[u8], moves: &[u8])
-    requires { ⌜ Updatable (now table) (size .components) (now state) (now choices) (now moves) ⌝ }
-    ensures { λ _. ⌜ now (state .exit) ≡ stateNext (netlistOf size (now (table .entry)))
-        (now (state .entry)) (now (choices .entry)) (now (moves .entry)) ⌝ }
+// The state after a step, from the signals.
+pub fn update(table: &[u8], size: Size, state: &mut [u8], signals: &[u8])
+    requires { ⌜ Updatable (now table) (size .components) (now state) (now signals) ⌝ }
+    ensures { λ _. ⌜ ((choices : List ℕ) → now (state .exit) ≡ stateNext (netlistOf size (now (table .entry)))
+        (now (state .entry)) choices (λ s. getD (now (signals .entry)) s 0)) ⌝ }
 {
     let mut k: usize = 0;
     while k < size.components {
-        let f = 24 * k;
-        let kind = table[f];
-        let ma = move_at(table, f + 1, moves);
-        let mb = move_at(table, f + 2, moves);
-        let pick = choices[k];
-        let g = 64 * k;
-        let h = g + 64;
-        cell_next(kind, &mut state[g..h], pick, ma, mb);
+        let at = CELL_SIZE * k;
+        let end = at + CELL_SIZE;
+        cell_next(table, k, &mut state[at..end], signals);
         k += 1;
     }
 }

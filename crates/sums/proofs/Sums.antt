@@ -7,28 +7,30 @@ use native.Mathlib.Omega.{arith}
 use lib.Dec.{ltb, eqb}
 use lib.IntN.{ℤ, pos, natAbs, _*ℤ_, *ℤ-zero, *ℤ-one, one}
 use borrow.Author.Tests.{ltb-true, ltb-false, lt-ltb, le-ltb, eqb-true, eqb-false}
-use Rattle.integers.specs.Sum.{sumTo, same}
+use Rattle.digits.proofs.Bools.{and-both, and-true, and-false}
+use Rattle.digits.proofs.Least.{least-at, least-none}
+use Rattle.integers.specs.Sum.{same}
 use Rattle.integers.specs.Tables.{Near, Grown, Summed}
 use Rattle.integers.proofs.Sum.{sum-cong, same-yes, same-no, cond-zero, sum-if, mul-if}
 use Rattle.integers.proofs.Near.{if-near}
 use Rattle.integers.proofs.Tables.{summed-none, summed-more, summed-near, near-wider, grown-is}
-use Rattle.digits.proofs.Bools.{and-both, and-true, and-false}
-use Rattle.digits.proofs.Least.{least-at, least-none}
-use Rattle.component.specs.Kind.{isQueue}
-use Rattle.component.specs.Row.{kind}
-use Rattle.netlist.specs.Netlist.{Netlist, rowOf}
 use Rattle.refusals.specs.declared.Refusal.{Refusal}
 use Rattle.refusals.specs.declared.Refusal.the-variants.{NoEquation}
 use Rattle.refusals.specs.declared.Verdict.{Verdict}
 use Rattle.refusals.specs.declared.Verdict.the-variants.{Accepted, Refused}
+use Rattle.component.specs.Kind.{isQueue}
+use Rattle.component.specs.Row.{kind}
+use Rattle.component.specs.Limits.{mostColours, mostEntries, mostFlows}
+use Rattle.netlist.specs.Netlist.{Netlist, rowOf}
+use Rattle.netlist.specs.Accepted.{AcceptedNetlist}
 use Rattle.equations.specs.Equations.{hasEquation, factor}
 use Rattle.equations.specs.Numbers.{equationNamed, nameVerdict, equationVerdict, factorOf, numbered, InTable}
 use Rattle.equations.specs.declared.Equation.{Equation}
 use Rattle.equations.proofs.Agree.{named-verdict, named-factor, named-within}
 use Rattle.equations.proofs.Queues.{known-place, queue-low, queue-has}
-use Rattle.flows.specs.Terms.{terms, component, index, multiplier}
+use Rattle.flows.specs.Terms.{terms, componentOf, index, multiplier, mostTerms}
 use Rattle.flows.specs.Flows.{flowSum, weight, entry}
-use Rattle.flows.specs.Verdict.{badTerm, firstBadTerm, ReadFabric}
+use Rattle.flows.specs.Verdict.{badTerm, firstBadTerm}
 use Rattle.flows.proofs.Terms.{multiplier-near}
 use Rattle.sums.specs.Sums.{flowFactor, countOf, countFactor, flowsTo, countsTo, termVerdict, termsVerdict, Added}
 use Rattle.sums.proofs.Bounds.{factor-near, same-near}
@@ -37,17 +39,17 @@ pub never : {r : Refusal} → Refused r ≡ Accepted → ⊥
 never e = let z : _≡_ {A = ℕ} 0 1 = cc in absurd (omega arith)
 
 -- ---- term k, of component q and index i, whose equation is e
-module _ (f : Netlist) (h : ReadFabric f) (p : List ℕ) (k : ℕ) {q i : ℕ} (eq : q ≡ component p k) (ei : i ≡ index p k) {e : Equation} (ee : e ≡ equationNamed f q i k) where
+module _ (f : Netlist) (h : AcceptedNetlist f) (p : List ℕ) (k : ℕ) {q i : ℕ} (eq : q ≡ componentOf p k) (ei : i ≡ index p k) {e : Equation} (ee : e ≡ equationNamed f q i k) where
   named-here : equationVerdict e ≡ nameVerdict (hasEquation f q i) k
-  named-here = ap equationVerdict ee ∙ named-verdict f (h .fewColours) q i k
+  named-here = ap equationVerdict ee ∙ named-verdict f (h .facts .fewColours) q i k
 
   -- what it comes to
   pub term-verdict : {v : Verdict} → v ≡ equationVerdict e → v ≡ termVerdict f p k
   unfolding termVerdict
-  term-verdict d = d ∙ named-here ∙ ap (λ (x : ℕ). nameVerdict (hasEquation f x i) k) eq ∙ ap (λ (x : ℕ). nameVerdict (hasEquation f (component p k) x) k) ei
+  term-verdict d = d ∙ named-here ∙ ap (λ (x : ℕ). nameVerdict (hasEquation f x i) k) eq ∙ ap (λ (x : ℕ). nameVerdict (hasEquation f (componentOf p k) x) k) ei
 
   pub term-within : InTable (f .table) e
-  term-within = subst (InTable (f .table)) (sym ee) (named-within f (h .fewColours) q i k (h .fewChannels) (h .long) (h .rows))
+  term-within = subst (InTable (f .table)) (sym ee) (named-within f (h .facts .fewColours) q i k (h .facts .fewChannels) (omega (arith, h .facts .long)) (h .facts .rows))
 
   module _ {v : Verdict} (d : v ≡ equationVerdict e) (ok : v ≡ Accepted) where
     pub term-known : hasEquation f q i ≡ true
@@ -60,28 +62,28 @@ module _ (f : Netlist) (h : ReadFabric f) (p : List ℕ) (k : ℕ) {q i : ℕ} (
     pub term-place : q < f .components
     term-place = known-place f q i term-known
 
-    -- a queue's entry
-    pub term-entry-low : isQueue (kind (rowOf f q)) ≡ true → 8 * q + i < 1024
-    term-entry-low y = omega (arith, queue-low f q i term-known y, term-place, h .fewRows, h .fewColours)
+    -- a queue's index
+    pub term-index-low : isQueue (kind (rowOf f q)) ≡ true → i < mostColours
+    term-index-low y = omega (arith, queue-low f q i term-known y, h .facts .fewColours)
 
     -- its flows
-    pub term-flows : {s s′ : List ℤ} {m : ℤ} → m ≡ multiplier p k → Grown 2040 s m (factorOf (f .table) (f .colours) e) s′ → Grown 2040 s (multiplier p k) (flowFactor f p k) s′
+    pub term-flows : {s s′ : List ℤ} {m : ℤ} → m ≡ multiplier p k → Grown mostFlows s m (factorOf (f .table) (f .colours) e) s′ → Grown mostFlows s (multiplier p k) (flowFactor f p k) s′
     unfolding flowFactor
     term-flows em = grown-is em
-        (λ u n. ap (λ (x : Equation). factorOf (f .table) (f .colours) x u) ee ∙ named-factor f (h .fewColours) q i k u
-        ∙ ap (λ (x : ℕ). numbered (f .colours) (factor f x i) u) eq ∙ ap (λ (x : ℕ). numbered (f .colours) (factor f (component p k) x) u) ei)
+        (λ u n. ap (λ (x : Equation). factorOf (f .table) (f .colours) x u) ee ∙ named-factor f (h .facts .fewColours) q i k u
+        ∙ ap (λ (x : ℕ). numbered (f .colours) (factor f x i) u) eq ∙ ap (λ (x : ℕ). numbered (f .colours) (factor f (componentOf p k) x) u) ei)
 
     -- and its weight
-    pub term-counts : {w w′ : List ℤ} {m : ℤ} (b : Bool) → m ≡ multiplier p k → b ≡ isQueue (kind (rowOf f q)) → Grown 1024 w m (λ u. cond b (same (8 * q + i) u) (pos 0)) w′
-        → Grown 1024 w (multiplier p k) (countFactor f p k) w′
+    pub term-counts : {w w′ : List ℤ} {m : ℤ} (b : Bool) → m ≡ multiplier p k → b ≡ isQueue (kind (rowOf f q)) → Grown mostEntries w m (λ u. cond b (same (8 * q + i) u) (pos 0)) w′
+        → Grown mostEntries w (multiplier p k) (countFactor f p k) w′
     unfolding countOf
     term-counts b em eb = grown-is em
         (λ u n. ap (λ (x : Bool). cond x (same (8 * q + i) u) (pos 0)) (eb ∙ sym (ap (λ (x : Bool). x && isQueue (kind (rowOf f q))) term-known))
-        ∙ ap (λ (x : ℕ). countOf f x i u) eq ∙ ap (λ (x : ℕ). countOf f (component p k) x u) ei)
+        ∙ ap (λ (x : ℕ). countOf f x i u) eq ∙ ap (λ (x : ℕ). countOf f (componentOf p k) x u) ei)
 
 -- ---- all terms
-module _ (f : Netlist) (h : ReadFabric f) (p : List ℕ) where
-  pub added-none : {s w : List ℤ} → Summed 2040 (λ v. pos 0) s → Summed 1024 (λ u. pos 0) w → Added f p 0 s w
+module _ (f : Netlist) (h : AcceptedNetlist f) (p : List ℕ) where
+  pub added-none : {s w : List ℤ} → Summed mostFlows (λ v. pos 0) s → Summed mostEntries (λ u. pos 0) w → Added f p 0 s w
   added-none a b = record { good = λ j l. absurd (none-below j l); flows = summed-none (multiplier p) (flowFactor f p) a; counts = summed-none (multiplier p) (countFactor f p) b }
     where
       none-below : (j : ℕ) → j < 0 → ⊥
@@ -90,13 +92,13 @@ module _ (f : Netlist) (h : ReadFabric f) (p : List ℕ) where
   -- a term that names an equation is not bad
   term-good : (k : ℕ) → termVerdict f p k ≡ Accepted → badTerm f p k ≡ false
   unfolding termVerdict badTerm
-  term-good k e = go (hasEquation f (component p k) (index p k)) e
+  term-good k e = go (hasEquation f (componentOf p k) (index p k)) e
     where
       go : (b : Bool) → nameVerdict b k ≡ Accepted → not b ≡ false
       go true x = refl
       go false x = absurd (never x)
 
-  pub added-more : {k : ℕ} {s w s′ w′ : List ℤ} → Added f p k s w → termVerdict f p k ≡ Accepted → Grown 2040 s (multiplier p k) (flowFactor f p k) s′ → Grown 1024 w (multiplier p k) (countFactor f p k) w′
+  pub added-more : {k : ℕ} {s w s′ w′ : List ℤ} → Added f p k s w → termVerdict f p k ≡ Accepted → Grown mostFlows s (multiplier p k) (flowFactor f p k) s′ → Grown mostEntries w (multiplier p k) (countFactor f p k) w′
       → Added f p (k + 1) s′ w′
   added-more {k} a e x y = record {
     good = λ j l. by-test j l (ltb j k) refl;
@@ -110,25 +112,25 @@ module _ (f : Netlist) (h : ReadFabric f) (p : List ℕ) where
 
   flow-small : (k v : ℕ) → natAbs (flowFactor f p k v) ≤ 16
   unfolding flowFactor
-  flow-small k v = subst (λ (z : ℤ). natAbs z ≤ 16) (named-factor f (h .fewColours) (component p k) (index p k) k v)
-      (factor-near (f .table) (f .colours) (h .fewColours) (equationNamed f (component p k) (index p k) k) v)
+  flow-small k v = subst (λ (z : ℤ). natAbs z ≤ 16) (named-factor f (h .facts .fewColours) (componentOf p k) (index p k) k v)
+      (factor-near (f .table) (f .colours) (h .facts .fewColours) (equationNamed f (componentOf p k) (index p k) k) v)
 
   count-small : (k u : ℕ) → natAbs (countFactor f p k u) ≤ 1
   unfolding countOf
-  count-small k u = if-near (hasEquation f (component p k) (index p k) && isQueue (kind (rowOf f (component p k)))) (same (8 * component p k + index p k) u) 1 (same-near (8 * component p k + index p k) u)
+  count-small k u = if-near (hasEquation f (componentOf p k) (index p k) && isQueue (kind (rowOf f (componentOf p k)))) (same (8 * componentOf p k + index p k) u) 1 (same-near (8 * componentOf p k + index p k) u)
 
-  pub flows-near : {k : ℕ} {s w : List ℤ} → k ≤ 4096 → Added f p k s w → Near 2040 (2 ^ 60) s
+  pub flows-near : {k : ℕ} {s w : List ℤ} → k ≤ mostTerms → Added f p k s w → Near mostFlows (2 ^ 60) s
   flows-near {k} l a = near-wider (k * (2 ^ 22 * 16)) (2 ^ 60) (omega arith) (summed-near (multiplier p) (flowFactor f p) k (2 ^ 22) 16 (multiplier-near p) flow-small (a .flows))
 
-  pub counts-near : {k : ℕ} {s w : List ℤ} → k ≤ 4096 → Added f p k s w → Near 1024 (2 ^ 40) w
+  pub counts-near : {k : ℕ} {s w : List ℤ} → k ≤ mostTerms → Added f p k s w → Near mostEntries (2 ^ 40) w
   counts-near {k} l a = near-wider (k * (2 ^ 22 * 1)) (2 ^ 40) (omega arith) (summed-near (multiplier p) (countFactor f p) k (2 ^ 22) 1 (multiplier-near p) count-small (a .counts))
 
   -- the first bad term
   pub bad-here : {k : ℕ} {s w : List ℤ} {r : Refusal} → Added f p k s w → Refused r ≡ termVerdict f p k → k < terms p → Refused r ≡ termsVerdict f p
   unfolding termVerdict badTerm termsVerdict
-  bad-here {k} {s} {w} {r} a e l = go (hasEquation f (component p k) (index p k)) refl
+  bad-here {k} {s} {w} {r} a e l = go (hasEquation f (componentOf p k) (index p k)) refl
     where
-      go : (b : Bool) → hasEquation f (component p k) (index p k) ≡ b → Refused r ≡ termsVerdict f p
+      go : (b : Bool) → hasEquation f (componentOf p k) (index p k) ≡ b → Refused r ≡ termsVerdict f p
       go true x = absurd (never (e ∙ ap (λ (b : Bool). nameVerdict b k) x))
       go false x =
           let y : firstBadTerm f p ≡ k = least-at (badTerm f p) (terms p) k l (a .good) (ap not x) in
@@ -148,12 +150,12 @@ module _ (f : Netlist) (p : List ℕ) where
   pub flows-sum : (v : ℕ) → flowsTo f p (terms p) v ≡ cond (ltb (v % 8) (f .colours)) (flowSum f p (v / 8) (v % 8)) (pos 0)
   unfolding flowFactor numbered flowSum
   flows-sum v =
-      sum-cong (terms p) (λ k. multiplier p k *ℤ cond (ltb (v % 8) (f .colours)) (factor f (component p k) (index p k) (v / 8) (v % 8)) (pos 0))
-      (λ k. cond (ltb (v % 8) (f .colours)) (multiplier p k *ℤ factor f (component p k) (index p k) (v / 8) (v % 8)) (pos 0))
-      (λ k l. mul-if (ltb (v % 8) (f .colours)) (multiplier p k) (factor f (component p k) (index p k) (v / 8) (v % 8)))
-      ∙ sum-if (ltb (v % 8) (f .colours)) (terms p) (λ k. multiplier p k *ℤ factor f (component p k) (index p k) (v / 8) (v % 8))
+      sum-cong (terms p) (λ k. multiplier p k *ℤ cond (ltb (v % 8) (f .colours)) (factor f (componentOf p k) (index p k) (v / 8) (v % 8)) (pos 0))
+      (λ k. cond (ltb (v % 8) (f .colours)) (multiplier p k *ℤ factor f (componentOf p k) (index p k) (v / 8) (v % 8)) (pos 0))
+      (λ k l. mul-if (ltb (v % 8) (f .colours)) (multiplier p k) (factor f (componentOf p k) (index p k) (v / 8) (v % 8)))
+      ∙ sum-if (ltb (v % 8) (f .colours)) (terms p) (λ k. multiplier p k *ℤ factor f (componentOf p k) (index p k) (v / 8) (v % 8))
 
-  module _ (h : ReadFabric f) (u : ℕ) (room : u < 8 * f .components) where
+  module _ (h : AcceptedNetlist f) (u : ℕ) (room : u < 8 * f .components) where
     abbrev low : Bool
     low = ltb (u % 8) (f .colours)
 
@@ -174,7 +176,7 @@ module _ (f : Netlist) (p : List ℕ) where
         elsewhere false e n = *ℤ-zero m
         elsewhere true e n =
             let a = and-both (hasEquation f q i) (isQueue (kind (rowOf f q))) e in
-            let l : i < 8 = omega (arith, queue-low f q i (a .0) (a .1), h .fewColours) in
+            let l : i < 8 = omega (arith, queue-low f q i (a .0) (a .1), h .facts .fewColours) in
             ap (λ (z : ℤ). m *ℤ z) (same-no (8 * q + i) u (λ k. n (omega arith, omega arith))) ∙ *ℤ-zero m
 
         -- this entry: of a queue, or not
@@ -200,7 +202,7 @@ module _ (f : Netlist) (p : List ℕ) where
     unfolding countOf entry weight
     counts-sum =
         sum-cong (terms p) (λ k. multiplier p k *ℤ countFactor f p k u)
-        (λ k. cond low (cond queue-here (cond (eqb (component p k) (u / 8) && eqb (index p k) (u % 8)) (multiplier p k) (pos 0)) (pos 0)) (pos 0))
-        (λ k l. term-entry (component p k) (index p k) (multiplier p k))
-        ∙ sum-if low (terms p) (λ k. cond queue-here (cond (eqb (component p k) (u / 8) && eqb (index p k) (u % 8)) (multiplier p k) (pos 0)) (pos 0))
-        ∙ ap (λ (z : ℤ). cond low z (pos 0)) (sum-if queue-here (terms p) (λ k. cond (eqb (component p k) (u / 8) && eqb (index p k) (u % 8)) (multiplier p k) (pos 0)))
+        (λ k. cond low (cond queue-here (cond (eqb (componentOf p k) (u / 8) && eqb (index p k) (u % 8)) (multiplier p k) (pos 0)) (pos 0)) (pos 0))
+        (λ k l. term-entry (componentOf p k) (index p k) (multiplier p k))
+        ∙ sum-if low (terms p) (λ k. cond queue-here (cond (eqb (componentOf p k) (u / 8) && eqb (index p k) (u % 8)) (multiplier p k) (pos 0)) (pos 0))
+        ∙ ap (λ (z : ℤ). cond low z (pos 0)) (sum-if queue-here (terms p) (λ k. cond (eqb (componentOf p k) (u / 8) && eqb (index p k) (u % 8)) (multiplier p k) (pos 0)))

@@ -6,7 +6,7 @@ use native.Mathlib.Omega.{arith}
 use lib.ListN.{getD}
 use lib.IntN.{ℤ}
 use Rattle.digits.specs.Packed.{joined, bytes}
-use Rattle.flows.specs.Terms.{signed, component, index, multiplier}
+use Rattle.flows.specs.Terms.{signed, componentOf, index, multiplier}
 
 pub word-four : (p : List ℕ) (at : ℕ) {a b c d : ℕ} → (a ≡ getD p at 0) × (a < 256) → (b ≡ getD p (at + 1) 0) × (b < 256) → (c ≡ getD p (at + 2) 0) × (c < 256) → (d ≡ getD p (at + 3) 0) × (d < 256)
     → ((a * 256 + b) * 256 + c) * 256 + d ≡ joined (bytes 4) p at
@@ -21,8 +21,8 @@ word-four p at {a} {b} {c} {d} ea eb ec ed =
 
 -- the fields of term k from its 32 bits
 pub term-fields : (p : List ℕ) (k : ℕ) {w : ℕ} {m : ℤ} → w ≡ joined (bytes 4) p (4 * k) → m ≡ signed 21 (w % 2097152)
-    → ((w / 33554432 % 128 ≡ component p k) × (w / 33554432 % 128 < 128)) × (((w / 2097152 % 16 ≡ index p k) × (w / 2097152 % 16 < 16)) × (m ≡ multiplier p k))
-unfolding component index multiplier
+    → ((w / 33554432 % 128 ≡ componentOf p k) × (w / 33554432 % 128 < 128)) × (((w / 2097152 % 16 ≡ index p k) × (w / 2097152 % 16 < 16)) × (m ≡ multiplier p k))
+unfolding componentOf index multiplier
 term-fields p k {w} {m} e f =
     let g : w % 2097152 ≡ w / 1 % 2097152 = omega arith in
     ((ap (λ (x : ℕ). x / 33554432 % 128) e, omega arith), ((ap (λ (x : ℕ). x / 2097152 % 16) e, omega arith), f ∙ ap (signed 21) (g ∙ ap (λ (x : ℕ). x / 1 % 2097152) e)))

@@ -7,27 +7,28 @@ use lib.Dec.{ltb}
 use lib.IntN.{ℤ, pos, _*ℤ_}
 use Rattle.integers.specs.Sum.{sumTo, same}
 use Rattle.integers.specs.Tables.{Summed}
-use Rattle.component.specs.Kind.{isQueue}
-use Rattle.component.specs.Row.{kind}
-use Rattle.netlist.specs.Netlist.{Netlist, rowOf}
 use Rattle.refusals.specs.Refusals.{test, firstRefusal}
 use Rattle.refusals.specs.declared.Refusal.the-variants.{NoEquation}
 use Rattle.refusals.specs.declared.Verdict.{Verdict}
+use Rattle.component.specs.Kind.{isQueue}
+use Rattle.component.specs.Row.{kind}
+use Rattle.component.specs.Limits.{mostEntries, mostFlows}
+use Rattle.netlist.specs.Netlist.{Netlist, rowOf}
 use Rattle.equations.specs.Equations.{hasEquation, factor}
 use Rattle.equations.specs.Numbers.{numbered, nameVerdict}
-use Rattle.flows.specs.Terms.{terms, component, index, multiplier}
+use Rattle.flows.specs.Terms.{terms, componentOf, index, multiplier}
 use Rattle.flows.specs.Verdict.{badTerm, firstBadTerm}
 
 -- the factor of flow v in the equation of term k
 unfoldable pub flowFactor : Netlist → List ℕ → ℕ → ℕ → ℤ
-flowFactor f p k v = numbered (f .colours) (factor f (component p k) (index p k)) v
+flowFactor f p k v = numbered (f .colours) (factor f (componentOf p k) (index p k)) v
 
 -- the factor of count u in the equation of component q and index i
 unfoldable pub countOf : Netlist → ℕ → ℕ → ℕ → ℤ
 countOf f q i u = cond (hasEquation f q i && isQueue (kind (rowOf f q))) (same (8 * q + i) u) (pos 0)
 
 abbrev pub countFactor : Netlist → List ℕ → ℕ → ℕ → ℤ
-countFactor f p k u = countOf f (component p k) (index p k) u
+countFactor f p k u = countOf f (componentOf p k) (index p k) u
 
 -- the sums of the first k terms
 abbrev pub flowsTo : Netlist → List ℕ → ℕ → ℕ → ℤ
@@ -38,7 +39,7 @@ countsTo f p k u = sumTo k (λ j. multiplier p j *ℤ countFactor f p j u)
 
 -- what a term comes to, and all terms
 unfoldable pub termVerdict : Netlist → List ℕ → ℕ → Verdict
-termVerdict f p k = nameVerdict (hasEquation f (component p k) (index p k)) k
+termVerdict f p k = nameVerdict (hasEquation f (componentOf p k) (index p k)) k
 
 unfoldable pub termsVerdict : Netlist → List ℕ → Verdict
 termsVerdict f p = firstRefusal (test (NoEquation (firstBadTerm f p)) (ltb (firstBadTerm f p) (terms p)) ∷ [])
@@ -46,5 +47,5 @@ termsVerdict f p = firstRefusal (test (NoEquation (firstBadTerm f p)) (ltb (firs
 -- after k terms that name equations
 pub record Added (f : Netlist) (p : List ℕ) (k : ℕ) (s w : List ℤ) : Type 0 where
   pub good : (j : ℕ) → j < k → badTerm f p j ≡ false
-  pub flows : Summed 2040 (flowsTo f p k) s
-  pub counts : Summed 1024 (countsTo f p k) w
+  pub flows : Summed mostFlows (flowsTo f p k) s
+  pub counts : Summed mostEntries (countsTo f p k) w

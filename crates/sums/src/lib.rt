@@ -1,33 +1,35 @@
 // The sums of the flows and the weights of a proposal, filled term by term.
-use equations::Equation;
-use netlist::Size;
-use refusals::Verdict;
 ghost use mathlib.Core.Path.{_≡_};
 ghost use Prim.Native.Nat.{_+_, _*_, _≤_, _<_, _^_};
 ghost use mathlib.Core.Bool.{true, cond};
 ghost use lib.ListN.{length};
 ghost use lib.IntN.{pos, natAbs};
+ghost use Rattle.digits.specs.Packed.{joined, bytes};
 ghost use Rattle.integers.specs.Sum.{same};
 ghost use Rattle.integers.specs.Tables.{Near, Grown, Summed};
-ghost use Rattle.digits.specs.Packed.{joined, bytes};
-ghost use Rattle.netlist.specs.Netlist.{netlistOf};
 ghost use Rattle.refusals.specs.declared.Verdict.the-variants.{Accepted};
+ghost use Rattle.record.specs.Sizes.{rowSize};
+ghost use Rattle.component.specs.Limits.{mostColours, mostEntries, mostFlows};
+ghost use Rattle.netlist.specs.Netlist.{netlistOf};
+ghost use Rattle.netlist.specs.Accepted.{AcceptedNetlist};
 ghost use Rattle.equations.specs.Numbers.{mappedFactor, allFactor, factorOf, InTable};
-ghost use Rattle.flows.specs.Terms.{terms, signed, component, index, multiplier};
-ghost use Rattle.flows.specs.Verdict.{ReadFabric};
+ghost use Rattle.flows.specs.Terms.{terms, signed, componentOf, index, multiplier, mostTerms};
 ghost use Rattle.sums.specs.Sums.{flowFactor, countFactor, termVerdict, termsVerdict, Added};
+use component::MOST_ENTRIES;
+use component::MOST_FLOWS;
+use digits::wide;
+use equations::Equation;
+use netlist::Size;
+use refusals::Verdict;
+
+// The most terms of a proposal.
+pub const MOST_TERMS: usize = 4096;
 
 // A term of a proposal.
 struct Term {
     component: usize,
     index: usize,
     multiplier: i64,
-}
-
-fn wide(x: u8) -> usize
-    ensures { λ r. ⌜ (r ≡ x) × (r < 256) ⌝ }
-{
-    x as usize
 }
 
 // The four bytes from `at` on as one number, the first the highest.
@@ -57,7 +59,7 @@ fn signed_of(n: usize) -> i64
 // Term k of a proposal.
 fn term_at(p: &[u8], k: usize) -> Term
     requires { ⌜ 4 * k + 4 ≤ length (now p) ⌝ }
-    ensures component { λ r. ⌜ (r .component ≡ component (now (p .entry)) k) × (r .component < 128) ⌝ }
+    ensures component { λ r. ⌜ (r .component ≡ componentOf (now (p .entry)) k) × (r .component < 128) ⌝ }
     ensures index { λ r. ⌜ (r .index ≡ index (now (p .entry)) k) × (r .index < 16) ⌝ }
     ensures multiplier { λ r. ⌜ r .multiplier ≡ multiplier (now (p .entry)) k ⌝ }
 {
@@ -71,11 +73,11 @@ fn term_at(p: &[u8], k: usize) -> Term
 }
 
 // The sum of flow v grows by m.
-fn add_flow(s: &mut [i64; 2040], v: usize, m: i64)
-    requires { ⌜ v < 2040 ⌝ }
-    requires { ⌜ Near 2040 (2 ^ 62) (now s) ⌝ }
+fn add_flow(s: &mut [i64; MOST_FLOWS], v: usize, m: i64)
+    requires { ⌜ v < mostFlows ⌝ }
+    requires { ⌜ Near mostFlows (2 ^ 62) (now s) ⌝ }
     requires { ⌜ natAbs m ≤ 2 ^ 34 ⌝ }
-    ensures { λ _. ⌜ Grown 2040 (now (s .entry)) m (same v) (now (s .exit)) ⌝ }
+    ensures { λ _. ⌜ Grown mostFlows (now (s .entry)) m (same v) (now (s .exit)) ⌝ }
 {
     s[v] += m;
 }
@@ -88,53 +90,59 @@ fn times(hit: bool, m: i64) -> i64
 }
 
 // The sum of flow v grows by m, or by 0: no branch on what a map says.
-fn add_flow_if(s: &mut [i64; 2040], hit: bool, v: usize, m: i64)
-    requires { ⌜ v < 2040 ⌝ }
-    requires { ⌜ Near 2040 (2 ^ 62) (now s) ⌝ }
+fn add_flow_if(s: &mut [i64; MOST_FLOWS], hit: bool, v: usize, m: i64)
+    requires { ⌜ v < mostFlows ⌝ }
+    requires { ⌜ Near mostFlows (2 ^ 62) (now s) ⌝ }
     requires { ⌜ natAbs m ≤ 2 ^ 34 ⌝ }
-    ensures { λ _. ⌜ Grown 2040 (now (s .entry)) m (λ u. cond hit (same v u) (pos 0)) (now (s .exit)) ⌝ }
+    ensures { λ _. ⌜ Grown mostFlows (now (s .entry)) m (λ u. cond hit (same v u) (pos 0)) (now (s .exit)) ⌝ }
 {
     add_flow(s, v, times(hit, m));
 }
 
 // The weight of entry u grows by m, if it is a queue's.
-fn add_weight(w: &mut [i64; 1024], queue: bool, u: usize, m: i64)
-    requires { ⌜ (queue ≡ true → u < 1024) ⌝ }
-    requires { ⌜ Near 1024 (2 ^ 62) (now w) ⌝ }
+fn add_weight(w: &mut [i64; MOST_ENTRIES], queue: bool, u: usize, m: i64)
+    requires { ⌜ (queue ≡ true → u < mostEntries) ⌝ }
+    requires { ⌜ Near mostEntries (2 ^ 62) (now w) ⌝ }
     requires { ⌜ natAbs m ≤ 2 ^ 34 ⌝ }
-    ensures { λ _. ⌜ Grown 1024 (now (w .entry)) m (λ v. cond queue (same u v) (pos 0)) (now (w .exit)) ⌝ }
+    ensures { λ _. ⌜ Grown mostEntries (now (w .entry)) m (λ v. cond queue (same u v) (pos 0)) (now (w .exit)) ⌝ }
 {
     if queue {
         w[u] += m;
     }
 }
 
-// The flows of a channel, from `from` on, whose colours the map takes to `to`.
+// The flows of a channel, from `from` on, whose colours a map of component q takes to `to`.
 fn add_mapped(
-    s: &mut [i64; 2040],
+    s: &mut [i64; MOST_FLOWS],
     table: &[u8],
     colours: usize,
     from: usize,
-    map: usize,
+    q: usize,
+    second: bool,
     to: usize,
     m: i64,
 )
-    requires { ⌜ (colours ≤ 8) × (from + 8 ≤ 2040) × (map + 8 ≤ length (now table)) ⌝ }
-    requires { ⌜ Near 2040 (2 ^ 61) (now s) ⌝ }
+    requires { ⌜ (colours ≤ mostColours) × (from + 8 ≤ mostFlows) × (rowSize * q + rowSize ≤ length (now table)) ⌝ }
+    requires { ⌜ Near mostFlows (2 ^ 61) (now s) ⌝ }
     requires { ⌜ natAbs m ≤ 2 ^ 34 ⌝ }
-    ensures { λ _. ⌜ Grown 2040 (now (s .entry)) m (mappedFactor (now (table .entry)) colours from map to) (now (s .exit)) ⌝ }
+    ensures { λ _. ⌜ Grown mostFlows (now (s .entry)) m (mappedFactor (now (table .entry)) colours from q second to) (now (s .exit)) ⌝ }
 {
     for d in 0..colours {
-        add_flow_if(s, wide(table[map + d]) == to, from + d, m);
+        add_flow_if(
+            s,
+            wide(component::map_of(table, q, second, d)) == to,
+            from + d,
+            m,
+        );
     }
 }
 
 // All flows of a channel, from `from` on.
-fn add_all(s: &mut [i64; 2040], colours: usize, from: usize, m: i64)
-    requires { ⌜ (colours ≤ 8) × (from + 8 ≤ 2040) ⌝ }
-    requires { ⌜ Near 2040 (2 ^ 61) (now s) ⌝ }
+fn add_all(s: &mut [i64; MOST_FLOWS], colours: usize, from: usize, m: i64)
+    requires { ⌜ (colours ≤ mostColours) × (from + 8 ≤ mostFlows) ⌝ }
+    requires { ⌜ Near mostFlows (2 ^ 61) (now s) ⌝ }
     requires { ⌜ natAbs m ≤ 2 ^ 34 ⌝ }
-    ensures { λ _. ⌜ Grown 2040 (now (s .entry)) m (allFactor colours from) (now (s .exit)) ⌝ }
+    ensures { λ _. ⌜ Grown mostFlows (now (s .entry)) m (allFactor colours from) (now (s .exit)) ⌝ }
 {
     for d in 0..colours {
         add_flow(s, from + d, m);
@@ -142,11 +150,11 @@ fn add_all(s: &mut [i64; 2040], colours: usize, from: usize, m: i64)
 }
 
 // The flows of an equation, each times m.
-fn add_equation(s: &mut [i64; 2040], table: &[u8], colours: usize, e: Equation, m: i64)
-    requires { ⌜ (colours ≤ 8) × InTable (now table) e ⌝ }
-    requires { ⌜ Near 2040 (2 ^ 60) (now s) ⌝ }
+fn add_equation(s: &mut [i64; MOST_FLOWS], table: &[u8], colours: usize, e: Equation, m: i64)
+    requires { ⌜ (colours ≤ mostColours) × InTable (now table) e ⌝ }
+    requires { ⌜ Near mostFlows (2 ^ 60) (now s) ⌝ }
     requires { ⌜ natAbs m ≤ 2 ^ 34 ⌝ }
-    ensures { λ _. ⌜ Grown 2040 (now (s .entry)) m (factorOf (now (table .entry)) colours e) (now (s .exit)) ⌝ }
+    ensures { λ _. ⌜ Grown mostFlows (now (s .entry)) m (factorOf (now (table .entry)) colours e) (now (s .exit)) ⌝ }
 {
     let n = 0 - m;
     match e {
@@ -164,11 +172,12 @@ fn add_equation(s: &mut [i64; 2040], table: &[u8], colours: usize, e: Equation, 
         Equation::Mapped {
             plus,
             from,
-            map,
+            component,
+            second,
             to,
         } => {
             add_flow(s, plus, m);
-            add_mapped(s, table, colours, from, map, to, n);
+            add_mapped(s, table, colours, from, component, second, to, n);
         }
         Equation::All(plus, minus) => {
             add_all(s, colours, plus, m);
@@ -179,20 +188,20 @@ fn add_equation(s: &mut [i64; 2040], table: &[u8], colours: usize, e: Equation, 
 
 // Term k: the flows of its equation, each times its multiplier, and a queue's weight; or refusal 12.
 fn add_term(
-    s: &mut [i64; 2040],
-    w: &mut [i64; 1024],
+    s: &mut [i64; MOST_FLOWS],
+    w: &mut [i64; MOST_ENTRIES],
     table: &[u8],
     size: Size,
     proposal: &[u8],
     k: usize,
 ) -> Verdict
-    requires { ⌜ ReadFabric (netlistOf size (now table)) ⌝ }
+    requires { ⌜ AcceptedNetlist (netlistOf size (now table)) ⌝ }
     requires { ⌜ 4 * k + 4 ≤ length (now proposal) ⌝ }
-    requires { ⌜ Near 2040 (2 ^ 60) (now s) ⌝ }
-    requires { ⌜ Near 1024 (2 ^ 60) (now w) ⌝ }
+    requires { ⌜ Near mostFlows (2 ^ 60) (now s) ⌝ }
+    requires { ⌜ Near mostEntries (2 ^ 60) (now w) ⌝ }
     ensures verdict { λ r. ⌜ r ≡ termVerdict (netlistOf size (now (table .entry))) (now (proposal .entry)) k ⌝ }
-    ensures flows { λ r. ⌜ (r ≡ Accepted → Grown 2040 (now (s .entry)) (multiplier (now (proposal .entry)) k) (flowFactor (netlistOf size (now (table .entry))) (now (proposal .entry)) k) (now (s .exit))) ⌝ }
-    ensures counts { λ r. ⌜ (r ≡ Accepted → Grown 1024 (now (w .entry)) (multiplier (now (proposal .entry)) k) (countFactor (netlistOf size (now (table .entry))) (now (proposal .entry)) k) (now (w .exit))) ⌝ }
+    ensures flows { λ r. ⌜ (r ≡ Accepted → Grown mostFlows (now (s .entry)) (multiplier (now (proposal .entry)) k) (flowFactor (netlistOf size (now (table .entry))) (now (proposal .entry)) k) (now (s .exit))) ⌝ }
+    ensures counts { λ r. ⌜ (r ≡ Accepted → Grown mostEntries (now (w .entry)) (multiplier (now (proposal .entry)) k) (countFactor (netlistOf size (now (table .entry))) (now (proposal .entry)) k) (now (w .exit))) ⌝ }
 {
     let t = term_at(proposal, k);
     let q = t.component;
@@ -204,7 +213,7 @@ fn add_term(
         Verdict::Refused(r) => Verdict::Refused(r),
         Verdict::Accepted => {
             add_equation(s, table, size.colours, e, m);
-            add_weight(w, wide(table[24 * q]) == 2, 8 * q + i, m);
+            add_weight(w, component::kind(table, q) == 2, 8 * q + i, m);
             Verdict::Accepted
         }
     }
@@ -212,16 +221,16 @@ fn add_term(
 
 // All terms, up to the first that names no equation.
 pub fn add_terms(
-    s: &mut [i64; 2040],
-    w: &mut [i64; 1024],
+    s: &mut [i64; MOST_FLOWS],
+    w: &mut [i64; MOST_ENTRIES],
     table: &[u8],
     size: Size,
     proposal: &[u8],
 ) -> Verdict
-    requires { ⌜ ReadFabric (netlistOf size (now table)) ⌝ }
-    requires { ⌜ length (now proposal) ≤ 16384 ⌝ }
-    requires { ⌜ Summed 2040 (λ v. pos 0) (now s) ⌝ }
-    requires { ⌜ Summed 1024 (λ u. pos 0) (now w) ⌝ }
+    requires { ⌜ AcceptedNetlist (netlistOf size (now table)) ⌝ }
+    requires { ⌜ length (now proposal) ≤ 4 * mostTerms ⌝ }
+    requires { ⌜ Summed mostFlows (λ v. pos 0) (now s) ⌝ }
+    requires { ⌜ Summed mostEntries (λ u. pos 0) (now w) ⌝ }
     ensures verdict { λ r. ⌜ r ≡ termsVerdict (netlistOf size (now (table .entry))) (now (proposal .entry)) ⌝ }
     ensures sums { λ r. ⌜ (r ≡ Accepted → Added (netlistOf size (now (table .entry))) (now (proposal .entry)) (terms (now (proposal .entry))) (now (s .exit)) (now (w .exit))) ⌝ }
 {

@@ -10,17 +10,18 @@ use lib.Dec.{eqb}
 use lib.ListN.{length, getD, set, replicate, length-set, length-replicate}
 use lib.Seq.{getD-set-same, getD-set-other}
 use borrow.Author.Tests.{eq-eqb, ne-eqb, eqb-true, lt-ltb}
-use Rattle.order.proofs.Zeros.{getD-zeros}
 use Rattle.digits.specs.Least.{least}
 use Rattle.digits.specs.Count.{count}
 use Rattle.digits.proofs.Count.{count-yes, count-no, count-only}
 use Rattle.digits.proofs.Least.{least-at, least-before, least-same}
+use Rattle.order.proofs.Zeros.{getD-zeros}
 use Rattle.component.specs.Kind.{Use, input, output, unused, isOutput, isInput, portUse}
 use Rattle.component.specs.Row.{kind, port}
+use Rattle.component.specs.Limits.{mostChannels, mostComponents}
 use Rattle.wiring.specs.Ends.{endRow, endPort, onSide, isEnd, unmatched, firstUnmatched}
 use Rattle.wiring.specs.Ports.{marked, found, single}
 use Rattle.wiring.specs.Sound.{Ends}
-use Rattle.wiring.specs.Stages.{signalAt, FoundEnds, Entries}
+use Rattle.wiring.specs.Stages.{signalAt, FoundEnds, Entries, endsSize}
 use Rattle.wiring.specs.Signals.{isOffer, gives, endOf, dependsAt, dependence}
 
 -- ---- what is found, by the count of ends
@@ -99,14 +100,14 @@ slot-hit unused true x y h = ne-eqb 512 (2 * x) (λ q. absurd (omega arith))
 slot-hit unused false x y h = ne-eqb 512 (2 * x + 1) (λ q. absurd (omega arith))
 
 -- nothing is noted before the first
-pub ends-none : (table : List ℕ) → FoundEnds table 0 (replicate 513 0)
-ends-none table = record { long = length-replicate {A = ℕ} 513 0; at = λ side x h. getD-zeros 513 (signalAt side x) ∙ sym (found-zero (isEnd table side x)) }
+pub ends-none : (table : List ℕ) → FoundEnds table 0 (replicate endsSize 0)
+ends-none table = record { long = length-replicate {A = ℕ} endsSize 0; at = λ side x h. getD-zeros endsSize (signalAt side x) ∙ sym (found-zero (isEnd table side x)) }
 
 pub found-at : {table ends : List ℕ} {a b : ℕ} → a ≡ b → FoundEnds table a ends → FoundEnds table b ends
 found-at {table} {ends} e noted = subst (λ (n : ℕ). FoundEnds table n ends) e noted
 
 -- one end more is noted
-pub ends-more : (table ends : List ℕ) (e y at v : ℕ) → at < 513
+pub ends-more : (table ends : List ℕ) (e y at v : ℕ) → at < endsSize
     → y ≡ port (endRow table e) (endPort e) → at ≡ useSlot (portUse (kind (endRow table e)) (endPort e)) y → v ≡ marked e (getD ends at 0)
     → FoundEnds table e ends → FoundEnds table (e + 1) (set ends at v)
 ends-more table ends e y at v ha ey ea ev noted = record {
@@ -163,7 +164,7 @@ signal-of s = go (ℕ-discrete (s % 2) 0)
     go (yes z) = ap (λ (b : Bool). signalAt b (s / 2)) (eq-eqb (s % 2) 0 z) ∙ omega arith
     go (no z) = ap (λ (b : Bool). signalAt b (s / 2)) (ne-eqb (s % 2) 0 z) ∙ omega (arith, z)
 
-module _ (table : List ℕ) (n channels : ℕ) (l : n ≤ 128) (few : channels ≤ 255) (ends : List ℕ) (noted : FoundEnds table (3 * n) ends) where
+module _ (table : List ℕ) (n channels : ℕ) (l : n ≤ mostComponents) (few : channels ≤ mostChannels) (ends : List ℕ) (noted : FoundEnds table (3 * n) ends) where
   same-channel : (x : ℕ) → x < channels → not (single (getD ends (2 * x) 0) && single (getD ends (2 * x + 1) 0)) ≡ unmatched table n x
   same-channel x h =
       rw (

@@ -1,7 +1,6 @@
 -- The code's table of ports agrees with the kinds' table and rules: one computed test. Assumes nothing.
-use mathlib.Core.Path.{_≡_, refl, sym, ap, ap₂, subst, _∙_}
+use mathlib.Core.Path.{_≡_, refl, sym, ap₂, subst, _∙_}
 use Prim.Native.Nat.{ℕ, zero, suc, _+_, _*_, _/_, _%_, _≤_, _<_}
-use native.Mathlib.Nat.{add-zero}
 use native.Mathlib.Omega.{arith}
 use mathlib.Core.Bool.{Bool, true, false, not}
 use mathlib.Core.List.{List, [], _∷_}
@@ -10,14 +9,13 @@ use lib.ListN.{getD}
 use borrow.Author.Tests.{eqb-true, not-false}
 use Rattle.digits.specs.Least.{least}
 use Rattle.digits.proofs.Least.{least-before}
+use Rattle.record.specs.Table.{row}
 use Rattle.component.specs.Kind.{kindOf, portOf, portUse}
 use Rattle.component.specs.Row.{kind, port}
-use Rattle.record.specs.Table.{row}
-use Rattle.record.proofs.Table.{row-at}
 use Rattle.wiring.specs.Ends.{endRow, endPort, onSide}
-use Rattle.wiring.proofs.Ends.{useSlot}
 use Rattle.wiring.specs.Signals.{dependsOn, has, nearOf, signalOf}
 use Rattle.wiring.specs.Ports.{portCode, endCode, codeSide, slotOf, codeHas}
+use Rattle.wiring.proofs.Ends.{useSlot}
 
 -- a test that passes at each number below n
 each : (p : ℕ → Bool) (n : ℕ) → least (λ i. not (p i)) n ≡ n → (i : ℕ) → i < n → p i ≡ true
@@ -71,24 +69,14 @@ port-has (suc (suc zero)) k p hj hk hp = same-true _ _ (at-port (has-test 2) ref
 port-has (suc (suc (suc zero))) k p hj hk hp = same-true _ _ (at-port (has-test 3) refl k p hk hp)
 port-has (suc (suc (suc (suc j)))) k p hj hk hp = absurd (omega arith)
 
--- ---- fields of the row of an end
-pub port-field : (r : List ℕ) (p : ℕ) → p < 3 → getD r (1 + p) 0 ≡ port r (portOf p)
-unfolding portOf
-port-field r zero h = refl
-port-field r (suc zero) h = refl
-port-field r (suc (suc zero)) h = refl
-port-field r (suc (suc (suc p))) h = absurd (omega arith)
-
-pub near-field : (r : List ℕ) (j : ℕ) → j < 4 → 2 * getD r ((j + 3) / 2) 0 + j / 2 ≡ signalOf r (nearOf j)
-unfolding nearOf
-near-field r zero h = omega arith
-near-field r (suc zero) h = omega arith
-near-field r (suc (suc zero)) h = refl
-near-field r (suc (suc (suc zero))) h = refl
-near-field r (suc (suc (suc (suc j)))) h = absurd (omega arith)
-
-pub row-kind : (table : List ℕ) (k : ℕ) → getD table (24 * k) 0 ≡ getD (row table k) 0 0
-row-kind table k = ap (λ (i : ℕ). getD table i 0) (sym (add-zero (24 * k))) ∙ sym (row-at table k 0 (omega arith))
+-- ---- the channel of a dependence: port A, B, B and C
+pub near-port : (r : List ℕ) (j : ℕ) → j < 4 → 2 * port r (portOf ((j + 1) / 2)) + j / 2 ≡ signalOf r (nearOf j)
+unfolding nearOf portOf
+near-port r zero h = omega arith
+near-port r (suc zero) h = omega arith
+near-port r (suc (suc zero)) h = refl
+near-port r (suc (suc (suc zero))) h = refl
+near-port r (suc (suc (suc (suc j)))) h = absurd (omega arith)
 
 -- ---- port p of component k is end 3 k + p
 module _ (table : List ℕ) (k p : ℕ) (hp : p < 3) where
@@ -98,9 +86,8 @@ module _ (table : List ℕ) (k p : ℕ) (hp : p < 3) where
   rest : p ≡ (3 * k + p) % 3
   rest = omega arith
 
-  pub port-channel : getD table (24 * k + (1 + p)) 0 ≡ port (endRow table (3 * k + p)) (endPort (3 * k + p))
-  port-channel =
-      sym (row-at table k (1 + p) (omega arith)) ∙ port-field (row table k) p hp ∙ ap₂ (λ (i j : ℕ). port (row table i) (portOf j)) part rest
+  pub port-channel : port (row table k) (portOf p) ≡ port (endRow table (3 * k + p)) (endPort (3 * k + p))
+  port-channel = ap₂ (λ (i j : ℕ). port (row table i) (portOf j)) part rest
 
   pub port-slot : getD (row table k) 0 0 ≤ 7 → (x : ℕ)
       → slotOf (portCode (kindOf (getD (row table k) 0 0)) (portOf p)) x ≡ useSlot (portUse (kind (endRow table (3 * k + p))) (endPort (3 * k + p))) x
@@ -114,7 +101,3 @@ module _ (table : List ℕ) (e : ℕ) where
   pub end-has : getD (row table (e / 3)) 0 0 ≤ 7 → (j : ℕ) → j < 4 → codeHas (endCode table e) j ≡ has (dependsOn (kind (endRow table e)) (endPort e)) (nearOf j)
   unfolding endCode
   end-has h j hj = port-has j (getD (row table (e / 3)) 0 0) (e % 3) hj h (omega arith)
-
-  pub near-at : (j : ℕ) → j < 4 → 2 * getD table (24 * (e / 3) + (j + 3) / 2) 0 + j / 2 ≡ signalOf (endRow table e) (nearOf j)
-  near-at j h =
-      ap (λ (x : ℕ). 2 * x + j / 2) (sym (row-at table (e / 3) ((j + 3) / 2) (omega arith))) ∙ near-field (row table (e / 3)) j h

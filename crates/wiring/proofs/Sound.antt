@@ -9,6 +9,7 @@ use borrow.Author.Tests.{lt-ltb, le-ltb}
 use Rattle.digits.specs.Least.{least}
 use Rattle.order.specs.Graph.{dep, hasCircle, OrderOf}
 use Rattle.order.proofs.Same.{order-same}
+use Rattle.component.specs.Limits.{mostChannels, mostComponents}
 use Rattle.wiring.specs.Ends.{firstUnmatched}
 use Rattle.wiring.specs.Ports.{single}
 use Rattle.wiring.specs.Signals.{dependence}
@@ -17,7 +18,7 @@ use Rattle.wiring.specs.Stages.{wired, FoundEnds, Dependences, Wiring}
 use Rattle.wiring.specs.declared.Wired.the-variants.{Sound, Unmatched, Circular}
 use Rattle.wiring.proofs.Ends.{first-same, all-ends}
 
-module _ (table : List ℕ) (n channels : ℕ) (l : n ≤ 128) (few : channels ≤ 255) (ends : List ℕ) (noted : FoundEnds table (3 * n) ends)
+module _ (table : List ℕ) (n channels : ℕ) (l : n ≤ mostComponents) (few : channels ≤ mostChannels) (ends : List ℕ) (noted : FoundEnds table (3 * n) ends)
     (bad : ℕ) (eb : bad ≡ least (λ x. not (single (getD ends (2 * x) 0) && single (getD ends (2 * x + 1) 0))) channels) where
   first : firstUnmatched table n channels ≡ bad
   first = sym (eb ∙ first-same table n channels l few ends noted)

@@ -4,6 +4,7 @@ use mathlib.Core.Bool.{Bool, true, false, cond, _||_}
 use mathlib.Core.List.{List, [], _∷_}
 use lib.Dec.{eqb}
 use Rattle.digits.specs.Least.{least}
+use Rattle.order.specs.Graph.{mostSignals}
 use Rattle.component.specs.Kind.{Kind, source, sink, queue, function, fork, join, switch, merge, Port, A, B, C}
 use Rattle.component.specs.Row.{kind, port}
 use Rattle.wiring.specs.Ends.{endRow, endPort, isEnd}
@@ -90,7 +91,7 @@ nearOf (suc (suc zero)) = takeB
 nearOf (suc (suc (suc j))) = takeC
 
 abbrev pub dependsAt : List ℕ → ℕ → ℕ → ℕ
-dependsAt table e j = cond (has (dependsOn (kind (endRow table e)) (endPort e)) (nearOf j)) (signalOf (endRow table e) (nearOf j)) 510
+dependsAt table e j = cond (has (dependsOn (kind (endRow table e)) (endPort e)) (nearOf j)) (signalOf (endRow table e) (nearOf j)) mostSignals
 
 abbrev pub isOffer : ℕ → Bool
 isOffer s = eqb (s % 2) 0

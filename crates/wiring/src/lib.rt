@@ -1,16 +1,24 @@
 // The channels of a table: the two ends of each, the dependences of their signals, and an order of them or a circle.
 ghost use mathlib.Core.Path.{_≡_};
-ghost use Prim.Native.Nat.{suc, _+_, _*_, _/_, _%_, _≤_, _<_};
+ghost use Prim.Native.Nat.{suc, _+_, _*_, _/_, _≤_, _<_};
 ghost use mathlib.Core.Bool.{not, _&&_};
 ghost use lib.ListN.{length, getD, replicate};
 ghost use Rattle.digits.specs.Least.{least};
+ghost use Rattle.order.specs.Graph.{mostSignals};
 ghost use Rattle.record.specs.Table.{row};
+ghost use Rattle.record.specs.Sizes.{rowSize};
 ghost use Rattle.component.specs.Kind.{kindOf, portOf};
 ghost use Rattle.component.specs.Row.{port, kindNumber};
+ghost use Rattle.component.specs.Limits.{mostChannels, mostComponents};
 ghost use Rattle.wiring.specs.Signals.{dependsAt};
 ghost use Rattle.wiring.specs.Sound.{Ends};
-ghost use Rattle.wiring.specs.Stages.{Kinds, FoundEnds, Entries, Dependences, Wiring};
+ghost use Rattle.wiring.specs.Stages.{Kinds, FoundEnds, Entries, Dependences, Wiring, endsSize};
 ghost use Rattle.wiring.specs.Ports.{portCode, endCode, slotOf, codeHas, marked, single};
+use digits::wide;
+use order::MOST_SIGNALS;
+
+// A note for each signal of 256 channels, and one that nobody reads.
+pub const ENDS_SIZE: usize = 513;
 
 // A line a kind and port: 16 an output, 32 an input, and what the signal there depends on:
 // 8 offer(A), 4 offer(B), 2 take(B), 1 take(C).
@@ -48,24 +56,18 @@ fn port_code(kind: usize, port: usize) -> u8
     PORTS[3 * kind + port]
 }
 
-fn wide(x: u8) -> usize
-    ensures { λ r. ⌜ (r ≡ x) × (r < 256) ⌝ }
-{
-    x as usize
-}
-
 // The code of end e.
 fn end_code(table: &[u8], e: usize) -> u8
-    requires { ⌜ (24 * (e / 3) + 24 ≤ length (now table)) × (kindNumber (row (now table) (e / 3)) ≤ 7) ⌝ }
+    requires { ⌜ (rowSize * (e / 3) + rowSize ≤ length (now table)) × (kindNumber (row (now table) (e / 3)) ≤ 7) ⌝ }
     ensures { λ r. ⌜ r ≡ endCode (now (table .entry)) e ⌝ }
 {
-    port_code(wide(table[24 * (e / 3)]), e % 3)
+    port_code(wide(component::kind(table, e / 3)), e % 3)
 }
 
 // Where the end of this code at channel x is noted: at 2x for an output, at 2x + 1 for an input, at 512 if it is no end.
 fn slot(code: u8, x: usize) -> usize
     requires { ⌜ x < 256 ⌝ }
-    ensures { λ r. ⌜ (r ≡ slotOf code x) × (r < 513) ⌝ }
+    ensures { λ r. ⌜ (r ≡ slotOf code x) × (r < endsSize) ⌝ }
 {
     if code / 16 == 1 {
         return 2 * x;
@@ -98,17 +100,17 @@ fn mark(e: usize, old: u16) -> u16
 
 // Notes port p of component k, after all ends before it.
 fn note_end(table: &[u8], k: usize, p: usize, ends: &mut [u16])
-    requires { ⌜ (k < 128) × (p < 3) × (24 * k + 24 ≤ length (now table)) × (kindNumber (row (now table) k) ≤ 7) × FoundEnds (now table) (3 * k + p) (now ends) ⌝ }
+    requires { ⌜ (k < mostComponents) × (p < 3) × (rowSize * k + rowSize ≤ length (now table)) × (kindNumber (row (now table) k) ≤ 7) × FoundEnds (now table) (3 * k + p) (now ends) ⌝ }
     ensures { λ _. ⌜ FoundEnds (now (table .entry)) (3 * k + p + 1) (now (ends .exit)) ⌝ }
 {
-    let x = wide(table[24 * k + (1 + p)]);
-    let at = slot(port_code(wide(table[24 * k]), p), x);
+    let x = wide(component::port(table, k, p));
+    let at = slot(port_code(wide(component::kind(table, k)), p), x);
     ends[at] = mark(3 * k + p, ends[at]);
 }
 
 // Notes for each signal 1 + the end that gives it, 0 where there is none, 512 where there are several.
 fn find_ends(table: &[u8], n: usize, ends: &mut [u16])
-    requires { ⌜ Kinds (now table) n × (now ends ≡ replicate 513 0) ⌝ }
+    requires { ⌜ Kinds (now table) n × (now ends ≡ replicate endsSize 0) ⌝ }
     ensures { λ _. ⌜ FoundEnds (now (table .entry)) (3 * n) (now (ends .exit)) ⌝ }
 {
     let mut k: usize = 0;
@@ -128,7 +130,7 @@ fn single_end(v: u16) -> bool
 
 // The lowest channel without just one output and just one input, or their number.
 fn first_unmatched(ends: &[u16], channels: usize) -> usize
-    requires { ⌜ (channels ≤ 255) × (length (now ends) ≡ 513) ⌝ }
+    requires { ⌜ (channels ≤ mostChannels) × (length (now ends) ≡ endsSize) ⌝ }
     ensures { λ r. ⌜ r ≡ least (λ x. not (single (getD (now (ends .entry)) (2 * x) 0) && single (getD (now (ends .entry)) (2 * x + 1) 0))) channels ⌝ }
 {
     let mut x: usize = 0;
@@ -151,10 +153,10 @@ fn end_before(v: u16) -> usize
 
 // Entry j of what the signal at end e, of this code, depends on.
 fn depends_at(table: &[u8], e: usize, code: u8, j: usize) -> u16
-    requires { ⌜ (24 * (e / 3) + 24 ≤ length (now table)) × (kindNumber (row (now table) (e / 3)) ≤ 7) × (code ≡ endCode (now table) e) × (j < 4) ⌝ }
+    requires { ⌜ (rowSize * (e / 3) + rowSize ≤ length (now table)) × (kindNumber (row (now table) (e / 3)) ≤ 7) × (code ≡ endCode (now table) e) × (j < 4) ⌝ }
     ensures { λ r. ⌜ r ≡ dependsAt (now (table .entry)) e j ⌝ }
 {
-    let x = wide(table[24 * (e / 3) + (j + 3) / 2]);
+    let x = wide(component::port(table, e / 3, (j + 1) / 2));
     if code_has(code, j) {
         return (2 * x + j / 2) as u16;
     }
@@ -162,8 +164,8 @@ fn depends_at(table: &[u8], e: usize, code: u8, j: usize) -> u16
 }
 
 // Lays down the four entries of signal s, which end e gives.
-fn put_entries(table: &[u8], e: usize, s: usize, deps: &mut [u16; 2040])
-    requires { ⌜ (24 * (e / 3) + 24 ≤ length (now table)) × (kindNumber (row (now table) (e / 3)) ≤ 7) × (s < 510) × (length (now deps) ≡ 2040) ⌝ }
+fn put_entries(table: &[u8], e: usize, s: usize, deps: &mut [u16; 4 * MOST_SIGNALS])
+    requires { ⌜ (rowSize * (e / 3) + rowSize ≤ length (now table)) × (kindNumber (row (now table) (e / 3)) ≤ 7) × (s < mostSignals) × (length (now deps) ≡ 4 * mostSignals) ⌝ }
     ensures { λ _. ⌜ Entries (now (table .entry)) e s (now (deps .entry)) (now (deps .exit)) ⌝ }
 {
     let code = end_code(table, e);
@@ -175,8 +177,14 @@ fn put_entries(table: &[u8], e: usize, s: usize, deps: &mut [u16; 2040])
 }
 
 // Lays down the dependences of all signals, four entries a signal.
-fn dependences(table: &[u8], n: usize, ends: &[u16], channels: usize, deps: &mut [u16; 2040])
-    requires { ⌜ Kinds (now table) n × (channels ≤ 255) × Ends (now table) n channels (now ends) × (length (now ends) ≡ 513) × (length (now deps) ≡ 2040) ⌝ }
+fn dependences(
+    table: &[u8],
+    n: usize,
+    ends: &[u16],
+    channels: usize,
+    deps: &mut [u16; 4 * MOST_SIGNALS],
+)
+    requires { ⌜ Kinds (now table) n × (channels ≤ mostChannels) × Ends (now table) n channels (now ends) × (length (now ends) ≡ endsSize) × (length (now deps) ≡ 4 * mostSignals) ⌝ }
     ensures { λ _. ⌜ Dependences (now (table .entry)) n channels (now (deps .exit)) ⌝ }
 {
     let mut s: usize = 0;
@@ -200,9 +208,9 @@ pub fn wire(
     n: usize,
     channels: usize,
     ends: &mut [u16],
-    order: &mut [u16; 510],
+    order: &mut [u16; MOST_SIGNALS],
 ) -> Wired
-    requires { ⌜ Kinds (now table) n × (channels ≤ 255) × (now ends ≡ replicate 513 0) × (510 ≤ length (now order)) ⌝ }
+    requires { ⌜ Kinds (now table) n × (channels ≤ mostChannels) × (now ends ≡ replicate endsSize 0) × (mostSignals ≤ length (now order)) ⌝ }
     ensures { λ r. ⌜ Wiring (now (table .entry)) n channels r (now (ends .exit)) (now (order .exit)) ⌝ }
 {
     find_ends(table, n, &mut *ends);
@@ -210,7 +218,7 @@ pub fn wire(
     if bad < channels {
         return Wired::Unmatched(bad);
     }
-    let mut deps = [0u16; 2040];
+    let mut deps = [0u16; 4 * MOST_SIGNALS];
     dependences(table, n, &*ends, channels, &mut deps);
     if order::order_of(&deps, 2 * channels, &mut *order) {
         return Wired::Circular;

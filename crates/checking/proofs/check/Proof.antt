@@ -1,10 +1,9 @@
 use mathlib.Core.Path.{sym, _∙_}
 use native.Mathlib.Omega.{arith}
-use Rattle.reader.proofs.Opened.{opened}
 use lib.ListN.{length}
-use Rattle.checking.proofs.Checking.{read-fabric, check-refused, check-zero, check-kept, check-judged, check-constant, check-written}
-use native.Mathlib.Omega.{arith}
 use borrow.Author.Needs.{needs}
+use Rattle.reader.proofs.Opened.{opened}
+use Rattle.checking.proofs.Checking.{check-refused, check-zero, check-kept, check-judged, check-constant, check-written}
 use Rattle.checking.proofs.check.Statement.{statement}
 use Rattle.checking.proofs.check.Tie as tie
 
@@ -36,7 +35,7 @@ slice-aggregate-judge : tie.Need-slice-aggregate-judge
 slice-aggregate-judge c = opened (c .before .before .before .before .before .before .before .read .ensures) (c .before .before .before .size .given .1) .long
 
 judge-requires : tie.Need-judge-requires
-judge-requires c κs = read-fabric (opened (c .before .before .before .before .before .before .before .before .read .ensures) (c .before .before .before .before .size .given .1) .facts)
+judge-requires c κs = opened (c .before .before .before .before .before .before .before .before .read .ensures) (c .before .before .before .before .size .given .1) .netlist
 
 returns : tie.Need-returns
 returns c =

@@ -1,9 +1,8 @@
 use mathlib.Core.Path.{sym, _∙_}
 use native.Mathlib.Omega.{arith}
-use Rattle.reader.proofs.Opened.{opened}
-use Rattle.checking.proofs.Checking.{read-fabric, check-refused, check-zero, check-judged, check-constant}
-use native.Mathlib.Omega.{arith}
 use borrow.Author.Needs.{needs}
+use Rattle.reader.proofs.Opened.{opened}
+use Rattle.checking.proofs.Checking.{check-refused, check-zero, check-judged, check-constant}
 use Rattle.checking.proofs.check_answer.Statement.{statement}
 use Rattle.checking.proofs.check_answer.Tie as tie
 
@@ -38,7 +37,7 @@ slice-aggregate-judge-bytes-2 : tie.Need-slice-aggregate-judge-bytes-2
 slice-aggregate-judge-bytes-2 c = search needs
 
 judge-bytes-requires : tie.Need-judge-bytes-requires
-judge-bytes-requires c κs = read-fabric (opened (c .before .before .before .before .before .before .before .before .read .ensures) (c .before .before .before .before .size .given .1) .facts)
+judge-bytes-requires c κs = opened (c .before .before .before .before .before .before .before .before .read .ensures) (c .before .before .before .before .size .given .1) .netlist
 
 returns : tie.Need-returns
 returns c =

@@ -1,11 +1,10 @@
 use mathlib.Core.Path.{sym, _∙_}
 use native.Mathlib.Omega.{arith}
-use Rattle.reader.proofs.Opened.{opened}
 use Prim.Native.Nat.{_/_}
 use lib.ListN.{length}
-use Rattle.checking.proofs.Checking.{read-fabric, check-refused, bytes-kept, check-judged, bytes-written}
-use native.Mathlib.Omega.{arith}
 use borrow.Author.Needs.{needs}
+use Rattle.reader.proofs.Opened.{opened}
+use Rattle.checking.proofs.Checking.{check-refused, bytes-kept, check-judged, bytes-written}
 use Rattle.checking.proofs.check_bytes.Statement.{statement}
 use Rattle.checking.proofs.check_bytes.Tie as tie
 
@@ -34,7 +33,7 @@ slice-aggregate-judge-bytes : tie.Need-slice-aggregate-judge-bytes
 slice-aggregate-judge-bytes c = opened (c .before .before .before .before .before .before .before .read .ensures) (c .before .before .before .size .given .1) .long
 
 judge-bytes-requires : tie.Need-judge-bytes-requires
-judge-bytes-requires c κs = read-fabric (opened (c .before .before .before .before .before .before .before .before .read .ensures) (c .before .before .before .before .size .given .1) .facts)
+judge-bytes-requires c κs = opened (c .before .before .before .before .before .before .before .before .read .ensures) (c .before .before .before .before .size .given .1) .netlist
 
 returns : tie.Need-returns
 returns c =

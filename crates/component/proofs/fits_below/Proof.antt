@@ -1,5 +1,5 @@
 use borrow.Author.Needs.{needs}
-use Rattle.component.proofs.Limits.{below-limit}
+use Rattle.component.proofs.FitsBelow.{below-limit}
 use Rattle.component.proofs.fits_below.Statement.{statement}
 use Rattle.component.proofs.fits_below.Tie as tie
 

@@ -1,5 +1,5 @@
-use Rattle.component.proofs.Row.{numbered-row}
 use borrow.Author.Needs.{needs}
+use Rattle.component.proofs.Row.{numbered-row}
 use Rattle.component.proofs.row_ok.Statement.{statement}
 use Rattle.component.proofs.row_ok.Tie as tie
 

@@ -9,9 +9,6 @@ use Rattle.digits.specs.Sum.{sum}
 use Rattle.digits.proofs.Sum.{sum-more}
 use Rattle.digits.proofs.byte_sum.Statement.{statement}
 use Rattle.digits.proofs.byte_sum.Tie as tie
-use Rattle.digits.proofs.byte_sum.Reads as reads
-use Rattle.digits.proofs.byte_sum.Lts as lts
-use Rattle.std.proofs.num.wrapping_add_u8.Reads as wrapping-add-u8-reads
 
 abbrev Inv-loop : tie.InvT-loop
 Inv-loop s total₀ i₀ total i = (i ≤ length s) × (total ≡ sum (take i s) % 256)

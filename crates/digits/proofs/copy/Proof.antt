@@ -7,8 +7,6 @@ use native.Mathlib.Numerals.{add-one}
 use lib.Seq.{paste, paste-zero, paste-suc, length-paste}
 use Rattle.digits.proofs.copy.Statement.{statement}
 use Rattle.digits.proofs.copy.Tie as tie
-use Rattle.digits.proofs.copy.Reads as reads
-use Rattle.digits.proofs.copy.Lts as lts
 
 abbrev Inv-loop : tie.InvT-loop
 Inv-loop from n to₀ at i₀ to i = (i ≤ n) × (to ≡ paste to₀ at from i)

@@ -6,8 +6,6 @@ use Rattle.digits.specs.Packed.{joined, bytes}
 use Rattle.digits.proofs.Words.{word-lt, word-more}
 use Rattle.digits.proofs.word.Statement.{statement}
 use Rattle.digits.proofs.word.Tie as tie
-use Rattle.digits.proofs.word.Reads as reads
-use Rattle.digits.proofs.word.Lts as lts
 
 abbrev Inv-loop : tie.InvT-loop
 Inv-loop s at n acc₀ i₀ acc i = (i ≤ n) × (acc ≡ joined (bytes i) s at)

@@ -1,11 +1,8 @@
 use borrow.Author.Tests.{lt-ltb, le-ltb}
-use Rattle.equations.specs.Numbers.{equationNamed}
 use borrow.Author.Needs.{needs}
+use Rattle.equations.specs.Numbers.{equationNamed}
 use Rattle.equations.proofs.equation_named.Statement.{statement}
 use Rattle.equations.proofs.equation_named.Tie as tie
-
-mul-equation-at : tie.Need-mul-equation-at
-mul-equation-at c = search needs
 
 equation-at-requires : tie.Need-equation-at-requires
 equation-at-requires c κs = search needs
@@ -22,5 +19,4 @@ unfolding equationNamed
 returns-2 c = simp (le-ltb _ _ (c .before .if1 .left)) (c .missing .ensures)
 
 pub equation-named-spec : {M : Type 1} → statement M
-equation-named-spec =
-    tie.close (tie.spec mul-equation-at equation-at-requires missing-requires returns returns-2)
+equation-named-spec = tie.close (tie.spec equation-at-requires missing-requires returns returns-2)

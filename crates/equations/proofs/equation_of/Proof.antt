@@ -1,6 +1,6 @@
 use borrow.Author.Tests.{lt-ltb, le-ltb}
-use Rattle.equations.specs.Numbers.{equationOf}
 use borrow.Author.Needs.{needs}
+use Rattle.equations.specs.Numbers.{equationOf}
 use Rattle.equations.proofs.equation_of.Statement.{statement}
 use Rattle.equations.proofs.equation_of.Tie as tie
 

@@ -1,14 +1,11 @@
 use borrow.Author.Tests.{ne-eqb}
 use mathlib.Core.Path.{_∙_}
+use borrow.Author.Needs.{needs}
 use Rattle.component.specs.Kind.{kindOf}
 use Rattle.equations.specs.Numbers.{highEquation}
 use Rattle.equations.proofs.Numbers.{high-none}
-use borrow.Author.Needs.{needs}
 use Rattle.equations.proofs.high_equation.Statement.{statement}
 use Rattle.equations.proofs.high_equation.Tie as tie
-
-add-mapped-flows : tie.Need-add-mapped-flows
-add-mapped-flows c = search needs
 
 sub-mapped-flows : tie.Need-sub-mapped-flows
 sub-mapped-flows c = search needs
@@ -16,20 +13,20 @@ sub-mapped-flows c = search needs
 mapped-flows-requires : tie.Need-mapped-flows-requires
 mapped-flows-requires c κs = search needs
 
+mul-t13 : tie.Need-mul-t13
+mul-t13 c = search needs
+
 mul-t14 : tie.Need-mul-t14
 mul-t14 c = search needs
-
-mul-t15 : tie.Need-mul-t15
-mul-t15 c = search needs
 
 missing-requires : tie.Need-missing-requires
 missing-requires c κs = search needs
 
-sub-bit-of : tie.Need-sub-bit-of
-sub-bit-of c = search needs
+sub-has-colour : tie.Need-sub-has-colour
+sub-has-colour c = search needs
 
-bit-of-requires : tie.Need-bit-of-requires
-bit-of-requires c κs = search needs
+has-colour-requires : tie.Need-has-colour-requires
+has-colour-requires c κs = search needs
 
 sub-switch-flows : tie.Need-sub-switch-flows
 sub-switch-flows c = search needs
@@ -54,7 +51,7 @@ returns-3 c = simp (c .before .before .match .keys2, ne-eqb _ 8 (c .before .matc
 
 returns-4 : tie.Need-returns-4
 unfolding highEquation kindOf
-returns-4 c = simp (c .before .before .match .keys3, ← c .before .bit-of .ensures) (c .switch-flows .ensures)
+returns-4 c = simp (c .before .before .match .keys3, ← c .before .has-colour .ensures) (c .switch-flows .ensures)
 
 returns-5 : tie.Need-returns-5
 unfolding highEquation kindOf
@@ -64,14 +61,13 @@ pub high-equation-spec : {M : Type 1} → statement M
 high-equation-spec =
     tie.close
     (tie.spec
-    add-mapped-flows
     sub-mapped-flows
     mapped-flows-requires
+    mul-t13
     mul-t14
-    mul-t15
     missing-requires
-    sub-bit-of
-    bit-of-requires
+    sub-has-colour
+    has-colour-requires
     sub-switch-flows
     switch-flows-requires
     missing-requires-2

@@ -1,7 +1,7 @@
-use Rattle.component.specs.Kind.{kindOf}
-use Rattle.equations.specs.Numbers.{lowEquation}
-use Rattle.equations.proofs.Numbers.{last-kind}
 use borrow.Author.Needs.{needs}
+use Rattle.component.specs.Kind.{kindOf}
+use Rattle.component.proofs.ByKind.{kind-rest}
+use Rattle.equations.specs.Numbers.{lowEquation}
 use Rattle.equations.proofs.low_equation.Statement.{statement}
 use Rattle.equations.proofs.low_equation.Tie as tie
 
@@ -14,26 +14,17 @@ missing-requires c κs = search needs
 queue-flows-requires : tie.Need-queue-flows-requires
 queue-flows-requires c κs = search needs
 
-add-mapped-flows : tie.Need-add-mapped-flows
-add-mapped-flows c = search needs
-
 mapped-flows-requires : tie.Need-mapped-flows-requires
 mapped-flows-requires c κs = search needs
-
-add-mapped-flows-2 : tie.Need-add-mapped-flows-2
-add-mapped-flows-2 c = search needs
 
 mapped-flows-requires-2 : tie.Need-mapped-flows-requires-2
 mapped-flows-requires-2 c κs = search needs
 
-add-mapped-flows-3 : tie.Need-add-mapped-flows-3
-add-mapped-flows-3 c = search needs
-
 mapped-flows-requires-3 : tie.Need-mapped-flows-requires-3
 mapped-flows-requires-3 c κs = search needs
 
-bit-of-requires : tie.Need-bit-of-requires
-bit-of-requires c κs = search needs
+has-colour-requires : tie.Need-has-colour-requires
+has-colour-requires c κs = search needs
 
 switch-flows-requires : tie.Need-switch-flows-requires
 switch-flows-requires c κs = search needs
@@ -67,11 +58,11 @@ returns-6 c = simp (c .before .match .keys6) (c .mapped-flows3 .ensures)
 
 returns-7 : tie.Need-returns-7
 unfolding lowEquation kindOf
-returns-7 c = simp (c .before .before .match .keys7, ← c .before .bit-of .ensures) (c .switch-flows .ensures)
+returns-7 c = simp (c .before .before .match .keys7, ← c .before .has-colour .ensures) (c .switch-flows .ensures)
 
 returns-8 : tie.Need-returns-8
 unfolding lowEquation kindOf
-returns-8 c = simp (last-kind _ (c .before .match .rest .0 .0 .0 .0 .0 .0 .1) (c .before .match .rest .0 .0 .0 .0 .0 .1) (c .before .match .rest .0 .0 .0 .0 .1) (c .before .match .rest .0 .0 .0 .1) (c .before .match .rest .0 .0 .1) (c .before .match .rest .0 .1) (c .before .match .rest .1)) (c .merge-flows .ensures)
+returns-8 c = simp (kind-rest _ (c .before .match .rest)) (c .merge-flows .ensures)
 
 pub low-equation-spec : {M : Type 1} → statement M
 low-equation-spec =
@@ -80,13 +71,10 @@ low-equation-spec =
     source-flows-requires
     missing-requires
     queue-flows-requires
-    add-mapped-flows
     mapped-flows-requires
-    add-mapped-flows-2
     mapped-flows-requires-2
-    add-mapped-flows-3
     mapped-flows-requires-3
-    bit-of-requires
+    has-colour-requires
     switch-flows-requires
     merge-flows-requires
     returns

@@ -4,8 +4,8 @@ use borrow.Author.Needs.{needs}
 use Rattle.equations.proofs.source_flows.Statement.{statement}
 use Rattle.equations.proofs.source_flows.Tie as tie
 
-bit-of-requires : tie.Need-bit-of-requires
-bit-of-requires c κs = search needs
+has-colour-requires : tie.Need-has-colour-requires
+has-colour-requires c κs = search needs
 
 missing-requires : tie.Need-missing-requires
 missing-requires c κs = search needs
@@ -20,10 +20,10 @@ missing-requires-2 : tie.Need-missing-requires-2
 missing-requires-2 c κs = search needs
 
 returns : tie.Need-returns
-returns c = simp (lt-ltb _ _ (c .before .before .before .if1 .taken), sym (c .before .before .bit-of .ensures) ∙ c .before .if2 .taken) (c .missing .ensures)
+returns c = simp (lt-ltb _ _ (c .before .before .before .if1 .taken), sym (c .before .before .has-colour .ensures) ∙ c .before .if2 .taken) (c .missing .ensures)
 
 returns-2 : tie.Need-returns-2
-returns-2 c = simp (lt-ltb _ _ (c .before .before .if1 .taken), sym (c .before .bit-of .ensures) ∙ c .if2 .left)
+returns-2 c = simp (lt-ltb _ _ (c .before .before .if1 .taken), sym (c .before .has-colour .ensures) ∙ c .if2 .left)
 
 returns-3 : tie.Need-returns-3
 returns-3 c = simp (le-ltb _ _ (c .before .if1 .left)) (c .missing2 .ensures)
@@ -32,7 +32,7 @@ pub source-flows-spec : {M : Type 1} → statement M
 source-flows-spec =
     tie.close
     (tie.spec
-    bit-of-requires
+    has-colour-requires
     missing-requires
     mul-t10
     add-t11

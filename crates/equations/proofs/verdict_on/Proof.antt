@@ -1,6 +1,6 @@
 use mathlib.Core.Path.{sym, ap}
-use Rattle.equations.specs.Numbers.{equationVerdict}
 use borrow.Author.Needs.{needs}
+use Rattle.equations.specs.Numbers.{equationVerdict}
 use Rattle.equations.proofs.verdict_on.Statement.{statement}
 use Rattle.equations.proofs.verdict_on.Tie as tie
 

@@ -1,9 +1,7 @@
-use Rattle.fabric.proofs.Packing.{header-bytes}
 use borrow.Author.Needs.{needs}
+use Rattle.fabric.proofs.Packing.{header-bytes}
 use Rattle.fabric.proofs.header_of.Statement.{statement}
 use Rattle.fabric.proofs.header_of.Tie as tie
-use Rattle.fabric.proofs.header_of.Reads as reads
-use Rattle.fabric.proofs.header_of.Lts as lts
 
 mul-t5 : tie.Need-mul-t5
 mul-t5 c = search needs

@@ -1,14 +1,11 @@
 use Prim.Native.Nat.{_/_}
 use lib.ListN.{length}
-use Rattle.fabric.proofs.Writing.{is-uneven, is-outside, is-judged, inside}
 use native.Mathlib.Omega.{arith}
 use borrow.Author.Needs.{needs}
+use Rattle.record.specs.Sizes.{rowSize}
+use Rattle.fabric.proofs.Writing.{is-uneven, is-outside, is-judged, inside}
 use Rattle.fabric.proofs.pack_answer.Statement.{statement}
 use Rattle.fabric.proofs.pack_answer.Tie as tie
-use Rattle.fabric.proofs.pack_answer.Reads as reads
-use Rattle.fabric.proofs.pack_answer.Lts as lts
-use Rattle.refusals.proofs.room_for.Reads as room-for-reads
-use Rattle.fabric.proofs.table_verdict.Reads as table-verdict-reads
 
 returns : tie.Need-returns
 returns c = is-uneven _ _ _ _ (c .if1 .taken)
@@ -17,15 +14,15 @@ returns-2 : tie.Need-returns-2
 returns-2 c = is-outside _ _ _ _ (c .before .if1 .left) (c .if2 .taken)
 
 cast-table-verdict : tie.Need-cast-table-verdict
-cast-table-verdict c = let a = c .before .before .before .args in omega (arith, inside (a .colours) (a .channels) (length (a .table .now) / 24) (c .if2 .left) .fewColours)
+cast-table-verdict c = let a = c .before .before .before .args in omega (arith, inside (a .colours) (a .channels) (length (a .table .now) / rowSize) (c .if2 .left) .fewColours)
 
 cast-table-verdict-2 : tie.Need-cast-table-verdict-2
-cast-table-verdict-2 c = let a = c .before .before .before .args in omega (arith, inside (a .colours) (a .channels) (length (a .table .now) / 24) (c .if2 .left) .fewChannels)
+cast-table-verdict-2 c = let a = c .before .before .before .args in omega (arith, inside (a .colours) (a .channels) (length (a .table .now) / rowSize) (c .if2 .left) .fewChannels)
 
 table-verdict-requires : tie.Need-table-verdict-requires
 table-verdict-requires c κs =
     let a = c .before .before .before .args in
-    let i = inside (a .colours) (a .channels) (length (a .table .now) / 24) (c .if2 .left) in
+    let i = inside (a .colours) (a .channels) (length (a .table .now) / rowSize) (c .if2 .left) in
     (omega (arith, c .before .if1 .left), i .fewRows, i .fewColours)
 
 mul-room-for : tie.Need-mul-room-for

@@ -4,18 +4,11 @@ use Prim.Native.Nat.{ℕ, _+_}
 use native.Mathlib.Omega.{arith}
 use lib.ListN.{drop}
 use lib.Seq.{length-take-le}
+use borrow.Author.Needs.{needs}
 use Rattle.fabric.specs.PackedFile.{headerBytes}
 use Rattle.fabric.proofs.Packing.{file-done}
-use borrow.Author.Needs.{needs}
 use Rattle.fabric.proofs.put_file.Statement.{statement}
 use Rattle.fabric.proofs.put_file.Tie as tie
-use Rattle.fabric.proofs.put_file.Reads as reads
-use Rattle.fabric.proofs.put_file.Lts as lts
-use Rattle.digits.proofs.byte_sum.Reads as byte-sum-reads
-use Rattle.fabric.proofs.header_of.Reads as header-of-reads
-use Rattle.digits.proofs.negate.Reads as negate-reads
-use Rattle.fabric.proofs.put_header.Reads as put-header-reads
-use Rattle.record.proofs.put_records.Reads as put-records-reads
 
 put-records-requires : tie.Need-put-records-requires
 put-records-requires c κs = search needs

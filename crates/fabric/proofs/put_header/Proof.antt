@@ -4,12 +4,10 @@ use Prim.Native.Nat.{ℕ}
 use native.Mathlib.Omega.{arith}
 use lib.ListN.{getD, drop, length-set}
 use lib.Seq.{sets-eq}
-use Rattle.fabric.proofs.Packing.{elements-4}
 use borrow.Author.Needs.{needs}
+use Rattle.fabric.proofs.Packing.{elements-4}
 use Rattle.fabric.proofs.put_header.Statement.{statement}
 use Rattle.fabric.proofs.put_header.Tie as tie
-use Rattle.fabric.proofs.put_header.Reads as reads
-use Rattle.fabric.proofs.put_header.Lts as lts
 
 array-read-out : tie.Need-array-read-out
 array-read-out c = search needs

@@ -1,14 +1,14 @@
 use mathlib.Core.Path.{_≡_, refl, sym, _∙_}
 use Prim.Native.Nat.{ℕ, _+_, _-_}
-use Rattle.reader.proofs.Accepted.{accepted-long}
-use Rattle.fabric.proofs.Unpacked.{start-in, length-in, start-past, length-past, start-refused, length-refused}
 use native.Mathlib.Omega.{arith}
 use borrow.Author.Needs.{needs}
+use Rattle.record.specs.Sizes.{recordSize}
+use Rattle.reader.specs.Reading.{reading}
+use Rattle.reader.specs.declared.Reading.the-variants.{Fabric}
+use Rattle.reader.proofs.Accepted.{accepted-long}
+use Rattle.fabric.proofs.Unpacked.{start-in, length-in, start-past, length-past, start-refused, length-refused}
 use Rattle.fabric.proofs.record.Statement.{statement}
 use Rattle.fabric.proofs.record.Tie as tie
-use Rattle.fabric.proofs.record.Reads as reads
-use Rattle.fabric.proofs.record.Lts as lts
-use Rattle.reader.proofs.reading_of.Reads as reading-of-reads
 
 reading-of-requires : tie.Need-reading-of-requires
 reading-of-requires c κs = search needs
@@ -28,20 +28,18 @@ part-result-end c = search needs
 enum-known-size : tie.Need-enum-known-size
 enum-known-size c = search needs
 
+-- the file is read
+is-read : (c : tie.After-size) → reading (c .before .before .before .before .args .file .now) ≡ Fabric (c .size .given .0 .0)
+is-read c = sym (c .before .before .reading-of .ensures) ∙ c .size .given .1
+
 mul-start : tie.Need-mul-start
-mul-start c =
-    let e = sym (c .before .before .before .before .reading-of .ensures) ∙ c .before .before .size .given .1 in
-    omega (arith, accepted-long (c .before .before .before .before .before .before .args .file .now) e .1)
+mul-start c = omega (arith, accepted-long _ (is-read (c .before .before)) .1)
 
 add-start : tie.Need-add-start
-add-start c =
-    let e = sym (c .before .before .before .before .reading-of .ensures) ∙ c .before .before .size .given .1 in
-    omega (arith, accepted-long (c .before .before .before .before .before .before .args .file .now) e .1)
+add-start c = omega (arith, accepted-long _ (is-read (c .before .before)) .1)
 
 add-end : tie.Need-add-end
-add-end c =
-    let e = sym (c .before .before .before .before .reading-of .ensures) ∙ c .before .before .size .given .1 in
-    omega (arith, accepted-long (c .before .before .before .before .before .before .args .file .now) e .1)
+add-end c = omega (arith, accepted-long _ (is-read (c .before .before)) .1)
 
 sub-result-2 : tie.Need-sub-result-2
 sub-result-2 c = search needs
@@ -50,9 +48,7 @@ part-result-start-2 : tie.Need-part-result-start-2
 part-result-start-2 c = search needs
 
 part-result-end-2 : tie.Need-part-result-end-2
-part-result-end-2 c =
-    let e = sym (c .before .before .before .before .reading-of .ensures) ∙ c .before .before .size .given .1 in
-    omega (arith, accepted-long (c .before .before .before .before .before .before .args .file .now) e .0)
+part-result-end-2 c = omega (arith, accepted-long _ (is-read (c .before .before)) .0)
 
 span : (s n : ℕ) → (s + n) - s ≡ n
 span s n = omega arith
@@ -60,8 +56,8 @@ span s n = omega arith
 returns : tie.Need-returns
 returns c =
     let a = c .before .before .before .before .before .before .before .args in
-    let e = sym (c .before .before .before .before .before .reading-of .ensures) ∙ c .before .before .before .size .given .1 in
-    rw (span _ 13, start-in (a .file .now) (a .k) e (omega arith), length-in (a .file .now) (a .k) e (omega arith)) (refl, refl)
+    let e = is-read (c .before .before .before) in
+    rw (span _ recordSize, start-in (a .file .now) (a .k) e (omega arith), length-in (a .file .now) (a .k) e (omega arith)) (refl, refl)
 
 sub-result-3 : tie.Need-sub-result-3
 sub-result-3 c = search needs
@@ -81,7 +77,7 @@ returns-2 c =
 returns-3 : tie.Need-returns-3
 returns-3 c =
     let a = c .before .before .before .before .before .before .before .args in
-    let e = sym (c .before .before .before .before .before .reading-of .ensures) ∙ c .before .before .before .size .given .1 in
+    let e = is-read (c .before .before .before) in
     rw (start-past (a .file .now) (a .k) e (omega arith), length-past (a .file .now) (a .k) e (omega arith)) (refl, refl)
 
 pub record-spec : {M : Type 1} → statement M

@@ -1,14 +1,9 @@
 use mathlib.Core.Path.{refl}
-use Rattle.fabric.proofs.Writing.{row-kinds, is-field, is-wired}
 use native.Mathlib.Omega.{arith}
 use borrow.Author.Needs.{needs}
+use Rattle.fabric.proofs.Writing.{row-kinds, is-field, is-wired}
 use Rattle.fabric.proofs.table_verdict.Statement.{statement}
 use Rattle.fabric.proofs.table_verdict.Tie as tie
-use Rattle.fabric.proofs.table_verdict.Reads as reads
-use Rattle.fabric.proofs.table_verdict.Lts as lts
-use Rattle.reader.proofs.first_bad_row.Reads as first-bad-row-reads
-use Rattle.reader.proofs.wired_verdict.Reads as wired-verdict-reads
-use Rattle.wiring.proofs.wire.Reads as wire-reads
 
 first-bad-row-requires : tie.Need-first-bad-row-requires
 first-bad-row-requires c κs = search needs

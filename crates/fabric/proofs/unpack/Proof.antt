@@ -1,22 +1,18 @@
 use mathlib.Core.Path.{sym, ap, _∙_}
 use Prim.Native.Nat.{_*_}
 use lib.ListN.{length}
+use native.Mathlib.Omega.{arith}
+use borrow.Author.Needs.{needs}
 use Rattle.refusals.specs.Room.{roomFor}
 use Rattle.refusals.specs.declared.Verdict.the-variants.{Accepted}
 use Rattle.refusals.proofs.Room.{room-space}
+use Rattle.record.specs.Sizes.{rowSize}
 use Rattle.reader.specs.declared.Reading.the-variants.{Fabric}
 use Rattle.reader.proofs.Accepted.{accepted-long}
 use Rattle.reader.proofs.Facts.{read-fabric, rows-front}
 use Rattle.fabric.proofs.Unpacked.{unpacked-rejected, unpacked-fabric, table-of, table-copied}
-use native.Mathlib.Omega.{arith}
-use borrow.Author.Needs.{needs}
 use Rattle.fabric.proofs.unpack.Statement.{statement}
 use Rattle.fabric.proofs.unpack.Tie as tie
-use Rattle.fabric.proofs.unpack.Reads as reads
-use Rattle.fabric.proofs.unpack.Lts as lts
-use Rattle.digits.proofs.copy.Reads as copy-reads
-use Rattle.fabric.proofs.with_room.Reads as with-room-reads
-use Rattle.reader.proofs.read.Reads as read-reads
 
 -- src/lib.rt:43:30
 slice-aggregate-read : tie.Need-slice-aggregate-read
@@ -75,8 +71,8 @@ copy-requires c κs =
     let f = a .file .now in
     let read = c .before .before .before .before .before .before .before .before .before .before .before .before .read .ensures in
     let e = sym (read .is) ∙ c .before .before .before .before .before .before .before .before .size .given .1 in
-    let q = read-fabric (roomFor Accepted (length (a .table .now)) (24 * c .before .before .before .before .before .before .before .before .size .given .0 .0 .components)) _ (sym (c .before .before .before .before .before .before .with-room .ensures) ∙ c .before .before .before .before .answer2 .given .1) in
-    let r = room-space Accepted (length (a .table .now)) (24 * c .before .before .before .before .before .before .before .before .size .given .0 .0 .components) (q .0) in
+    let q = read-fabric (roomFor Accepted (length (a .table .now)) (rowSize * c .before .before .before .before .before .before .before .before .size .given .0 .0 .components)) _ (sym (c .before .before .before .before .before .before .with-room .ensures) ∙ c .before .before .before .before .answer2 .given .1) in
+    let r = room-space Accepted (length (a .table .now)) (rowSize * c .before .before .before .before .before .before .before .before .size .given .0 .0 .components) (q .0) in
     (omega (arith, accepted-long f e .1, c .before .before .before .before .before .before .before .before .before .before .before .before .read .kept .1 .0), omega (arith, r))
 
 -- src/lib.rt:37:1
@@ -111,7 +107,7 @@ returns-3 c =
     let read = c .before .before .before .before .before .before .before .before .before .before .before .before .before .before .before .read .ensures in
     let e = sym (read .is) ∙ c .before .before .before .before .before .before .before .before .before .before .before .size .given .1 in
     let u = sym (c .before .before .before .before .before .before .before .answer2 .given .1) ∙ c .before .before .before .before .before .before .before .before .before .with-room .ensures ∙ unpacked-fabric f e (length (a .table .now)) in
-    let q = read-fabric (roomFor Accepted (length (a .table .now)) (24 * c .before .before .before .before .before .before .before .before .before .before .before .size .given .0 .0 .components)) _ (sym (c .before .before .before .before .before .before .before .before .before .with-room .ensures) ∙ c .before .before .before .before .before .before .before .answer2 .given .1) in
+    let q = read-fabric (roomFor Accepted (length (a .table .now)) (rowSize * c .before .before .before .before .before .before .before .before .before .before .before .size .given .0 .0 .components)) _ (sym (c .before .before .before .before .before .before .before .before .before .with-room .ensures) ∙ c .before .before .before .before .before .before .before .answer2 .given .1) in
     let t = table-copied f _ (a .table .now) _ _ (rows-front f _ _ _ (read .table _ e)) (c .before .before .copy .ensures) in
     (u, t ∙ table-of f (a .table .now) _ (ap Fabric (q .1) ∙ u))
 

@@ -1,13 +1,9 @@
 use mathlib.Core.Path.{sym, _∙_}
+use borrow.Author.Needs.{needs}
 use Rattle.reader.proofs.Accepted.{accepted-long}
 use Rattle.fabric.proofs.Unpacked.{unpacked-rejected, unpacked-fabric}
-use borrow.Author.Needs.{needs}
 use Rattle.fabric.proofs.unpack_answer.Statement.{statement}
 use Rattle.fabric.proofs.unpack_answer.Tie as tie
-use Rattle.fabric.proofs.unpack_answer.Reads as reads
-use Rattle.fabric.proofs.unpack_answer.Lts as lts
-use Rattle.fabric.proofs.with_room.Reads as with-room-reads
-use Rattle.reader.proofs.reading_of.Reads as reading-of-reads
 
 -- src/lib.rt:30:11
 reading-of-requires : tie.Need-reading-of-requires

@@ -1,13 +1,9 @@
 use mathlib.Core.Path.{ap, _∙_}
+use borrow.Author.Needs.{needs}
 use Rattle.refusals.specs.declared.Verdict.{Verdict}
 use Rattle.reader.specs.Reading.{readAs}
-use borrow.Author.Needs.{needs}
 use Rattle.fabric.proofs.with_room.Statement.{statement}
 use Rattle.fabric.proofs.with_room.Tie as tie
-use Rattle.fabric.proofs.with_room.Reads as reads
-use Rattle.fabric.proofs.with_room.Lts as lts
-use Rattle.reader.proofs.read_as.Reads as read-as-reads
-use Rattle.refusals.proofs.room_for.Reads as room-for-reads
 
 -- src/lib.rt:22:16
 mul-need : tie.Need-mul-need

@@ -7,9 +7,6 @@ use Rattle.netlist.specs.Netlist.{netlist}
 use Rattle.good.proofs.Sets.{Cleared, none-cleared, more-cleared}
 use Rattle.good.proofs.allowed_steps.Statement.{statement}
 use Rattle.good.proofs.allowed_steps.Tie as tie
-use Rattle.good.proofs.allowed_steps.Reads as reads
-use Rattle.good.proofs.allowed_steps.Lts as lts
-use Rattle.good.proofs.step_allowed.Reads as step-allowed-reads
 
 abbrev Inv-loop : tie.InvT-loop
 Inv-loop table sets components choices o₀ o = Cleared (netlist 0 0 components table) choices o
@@ -48,11 +45,12 @@ loop-less c = omega (arith, c .before .before .before .before .before .before .b
 
 loop-again : tie.Need-loop-again Inv-loop μ-loop
 loop-again c =
-    let z = c .before .before .before .before .before .before .before in
+    let earlier = c .before .before .before .before .before .before .before in
+    let z = earlier in
     let l = c .before .before .before .before .loop in
     let w : l .o + z .args .components - l .o ≡ z .args .components = omega arith in
     let good = rw w at (sym (c .before .step-allowed .ensures) ∙ not-false _ (c .if1 .left)) in
-    more-cleared (netlist 0 0 (z .args .components) (z .args .table .now)) (z .args .sets .now) (z .args .choices .now) (z .pre .2) (z .pre .0) (l .o) (l .inv) (omega (arith, c .before .before .before .before .before .before .before .pre .0, c .before .before .before .before .before .before .before .pre .1, c .before .before .before .loop-test .taken, c .before .before .before .before .loop .inv .few)) good
+    more-cleared (netlist 0 0 (z .args .components) (z .args .table .now)) (z .args .sets .now) (z .args .choices .now) (z .pre .2) (z .pre .0) (l .o) (l .inv) (omega (arith, earlier .pre .0, earlier .pre .1, c .before .before .before .loop-test .taken, c .before .before .before .before .loop .inv .few)) good
 
 returns-2 : tie.Need-returns-2 Inv-loop μ-loop
 returns-2 c = (c .before .loop .inv .few, c .before .loop .inv .each)

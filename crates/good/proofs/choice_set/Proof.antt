@@ -1,22 +1,19 @@
 use borrow.Author.Needs.{needs}
 use Rattle.component.specs.Kind.{kindOf}
-use Rattle.rules.proofs.Ports.{kind-rest}
+use Rattle.component.proofs.ByKind.{kind-rest}
 use Rattle.good.specs.Sets.{choiceSet}
 use Rattle.good.proofs.choice_set.Statement.{statement}
 use Rattle.good.proofs.choice_set.Tie as tie
-use Rattle.good.proofs.choice_set.Reads as reads
-use Rattle.good.proofs.choice_set.Lts as lts
-use Rattle.good.proofs.wide.Reads as wide-reads
 
-wide-requires : tie.Need-wide-requires
-wide-requires c κs = search needs
+widened-requires : tie.Need-widened-requires
+widened-requires c κs = search needs
 
 add-result : tie.Need-add-result
 add-result c = search needs
 
 returns : tie.Need-returns
 unfolding choiceSet kindOf
-returns c = rw (c .before .match .keys1, c .wide .ensures)
+returns c = rw (c .before .match .keys1, c .widened .ensures)
 
 returns-2 : tie.Need-returns-2
 unfolding choiceSet kindOf
@@ -44,13 +41,13 @@ returns-7 c = rw (c .match .keys7)
 
 returns-8 : tie.Need-returns-8
 unfolding choiceSet
-returns-8 c = let r = c .match .rest in rw (kind-rest _ (r .0 .0 .0 .0 .0 .0 .1) (r .0 .0 .0 .0 .0 .1) (r .0 .0 .0 .0 .1) (r .0 .0 .0 .1) (r .0 .0 .1) (r .0 .1) (r .1))
+returns-8 c = rw (kind-rest _ (c .match .rest))
 
 pub choice-set-spec : {M : Type 1} → statement M
 choice-set-spec =
     tie.close
     (tie.spec
-    wide-requires
+    widened-requires
     add-result
     returns
     returns-2

@@ -1,14 +1,10 @@
 use mathlib.Core.Path.{_≡_}
-use Prim.Native.Nat.{_+_, _-_, _*_, _≤_, _<_}
+use Prim.Native.Nat.{_-_, _≤_}
 use native.Mathlib.Omega.{arith}
-use lib.ListN.{getD}
 use Rattle.good.specs.Sets.{ChoiceSets}
 use Rattle.good.proofs.Sets.{no-sets, more-sets}
 use Rattle.good.proofs.choice_sets.Statement.{statement}
 use Rattle.good.proofs.choice_sets.Tie as tie
-use Rattle.good.proofs.choice_sets.Reads as reads
-use Rattle.good.proofs.choice_sets.Lts as lts
-use Rattle.good.proofs.choice_set.Reads as choice-set-reads
 
 abbrev Inv-loop : tie.InvT-loop
 Inv-loop table components sets₀ k₀ sets k = (k ≤ components) × ChoiceSets table k sets
@@ -19,17 +15,11 @@ abbrev μ-loop : tie.MeasureT-loop
 loop-holds : tie.Need-loop-holds Inv-loop μ-loop
 loop-holds c = (omega arith, no-sets _ _ (c .before .pre .2))
 
-mul-f : tie.Need-mul-f Inv-loop μ-loop
-mul-f c = omega (arith, c .before .before .before .pre, c .loop-test .taken)
+kind-requires : tie.Need-kind-requires Inv-loop μ-loop
+kind-requires c κs = omega (arith, c .before .before .before .pre, c .loop-test .taken)
 
-shared-slice-read-kind : tie.Need-shared-slice-read-kind Inv-loop μ-loop
-shared-slice-read-kind c = omega (arith, c .before .before .before .before .pre, c .before .loop-test .taken)
-
-add-mask : tie.Need-add-mask Inv-loop μ-loop
-add-mask c = omega (arith, c .before .before .before .before .pre, c .before .loop-test .taken)
-
-shared-slice-read-mask : tie.Need-shared-slice-read-mask Inv-loop μ-loop
-shared-slice-read-mask c = omega (arith, c .before .before .before .before .before .pre, c .before .before .loop-test .taken)
+mask-requires : tie.Need-mask-requires Inv-loop μ-loop
+mask-requires c κs = omega (arith, c .before .before .before .before .pre, c .before .loop-test .taken)
 
 choice-set-requires : tie.Need-choice-set-requires Inv-loop μ-loop
 choice-set-requires c κs = omega arith
@@ -50,8 +40,7 @@ loop-again : tie.Need-loop-again Inv-loop μ-loop
 loop-again c =
     let z = c .before .before .before .before .before .before in
     let l = c .before .before .before .before .loop in
-    let m : getD (z .args .table .now) (24 * l .k + 20) 0 < 256 = omega (arith, c .before .shared-slice-known3 .given (24 * l .k + 20)) in
-    (omega arith, more-sets (z .args .table .now) (l .sets) (l .k) (c .choice-set .result) (omega (arith, z .pre)) m (c .choice-set .ensures) (l .inv .1))
+    (omega arith, more-sets (z .args .table .now) (l .sets) (l .k) (c .choice-set .result) (omega (arith, z .pre)) (omega arith) (c .before .before .kind .ensures) (c .before .mask .ensures) (c .choice-set .ensures) (l .inv .1))
 
 returns : tie.Need-returns Inv-loop μ-loop
 returns c =
@@ -66,10 +55,8 @@ choice-sets-spec =
     Inv-loop
     μ-loop
     loop-holds
-    mul-f
-    shared-slice-read-kind
-    add-mask
-    shared-slice-read-mask
+    kind-requires
+    mask-requires
     choice-set-requires
     mul-sets
     element-write-sets

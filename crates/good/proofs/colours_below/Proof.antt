@@ -7,8 +7,6 @@ use Rattle.cells.specs.Good.{all}
 use Rattle.good.proofs.Cells.{all-turn, all-none}
 use Rattle.good.proofs.colours_below.Statement.{statement}
 use Rattle.good.proofs.colours_below.Tie as tie
-use Rattle.good.proofs.colours_below.Reads as reads
-use Rattle.good.proofs.colours_below.Lts as lts
 
 abbrev Inv-loop : tie.InvT-loop
 Inv-loop cell n colours good₀ j₀ good j = (j ≤ n) × (good ≡ all j (λ i. ltb (getD cell (1 + i) 0) colours))

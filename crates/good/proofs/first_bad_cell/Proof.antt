@@ -7,13 +7,10 @@ use borrow.Author.Needs.{needs}
 use borrow.Author.Count.{below-more}
 use Rattle.digits.proofs.Least.{least-at, least-none}
 use Rattle.record.specs.Table.{row}
-use Rattle.cells.specs.Cells.{cell}
+use Rattle.cells.specs.Cells.{cell, cellSize}
 use Rattle.cells.specs.Good.{goodCell, badComponent}
 use Rattle.good.proofs.first_bad_cell.Statement.{statement}
 use Rattle.good.proofs.first_bad_cell.Tie as tie
-use Rattle.good.proofs.first_bad_cell.Reads as reads
-use Rattle.good.proofs.first_bad_cell.Lts as lts
-use Rattle.good.proofs.good_cell.Reads as good-cell-reads
 
 abbrev bad : List ℕ → ℕ → List ℕ → ℕ → Bool
 bad table c state k = not (goodCell c (row table k) (cell state k))
@@ -27,17 +24,14 @@ abbrev μ-loop : tie.MeasureT-loop
 loop-holds : tie.Need-loop-holds Inv-loop μ-loop
 loop-holds c = (omega arith, λ j h. absurd (omega arith))
 
-mul-f : tie.Need-mul-f Inv-loop μ-loop
-mul-f c = omega arith
+mul-at : tie.Need-mul-at Inv-loop μ-loop
+mul-at c = omega arith
 
-add-t : tie.Need-add-t Inv-loop μ-loop
-add-t c = omega arith
+add-end : tie.Need-add-end Inv-loop μ-loop
+add-end c = omega arith
 
-mul-g : tie.Need-mul-g Inv-loop μ-loop
-mul-g c = omega arith
-
-add-h : tie.Need-add-h Inv-loop μ-loop
-add-h c = omega arith
+cast-good-cell : tie.Need-cast-good-cell Inv-loop μ-loop
+cast-good-cell c = omega arith
 
 sub-good-cell : tie.Need-sub-good-cell Inv-loop μ-loop
 sub-good-cell c = omega arith
@@ -48,30 +42,17 @@ part-good-cell-start c = omega arith
 part-good-cell-end : tie.Need-part-good-cell-end Inv-loop μ-loop
 part-good-cell-end c = omega arith
 
-cast-good-cell : tie.Need-cast-good-cell Inv-loop μ-loop
-cast-good-cell c = omega arith
-
-sub-good-cell-2 : tie.Need-sub-good-cell-2 Inv-loop μ-loop
-sub-good-cell-2 c = omega arith
-
-part-good-cell-start-2 : tie.Need-part-good-cell-start-2 Inv-loop μ-loop
-part-good-cell-start-2 c = omega arith
-
-part-good-cell-end-2 : tie.Need-part-good-cell-end-2 Inv-loop μ-loop
-part-good-cell-end-2 c = omega arith
-
 good-cell-requires : tie.Need-good-cell-requires Inv-loop μ-loop
 good-cell-requires c κs = search needs
 
 returns : tie.Need-returns Inv-loop μ-loop
 unfolding badComponent
 returns c =
-    let a = c .before .before .before .before .before .before .before .before .before .before .args in
-    let g = c .before .before .before .before .before .before .before .loop in
-    let w : 24 * g .k + 24 - 24 * g .k ≡ 24 = omega arith in
-    let v : 64 * g .k + 64 - 64 * g .k ≡ 64 = omega arith in
-    let e : c .before .good-cell .result ≡ goodCell (a .size .colours) (row (a .table .now) (g .k)) (cell (a .state .now) (g .k)) = rw (w, v) at (c .before .good-cell .ensures) in
-    sym (least-at (bad (a .table .now) (a .size .colours) (a .state .now)) (a .size .components) (g .k) (c .before .before .before .before .before .if1 .taken) (g .inv .1) (rw e at (c .if2 .taken)))
+    let a = c .before .before .before .before .before .before .before .before .before .args in
+    let g = c .before .before .before .before .before .before .loop in
+    let v : cellSize * g .k + cellSize - cellSize * g .k ≡ cellSize = omega arith in
+    let e : c .before .good-cell .result ≡ goodCell (a .size .colours) (row (a .table .now) (g .k)) (cell (a .state .now) (g .k)) = rw v at (c .before .good-cell .ensures) in
+    sym (least-at (bad (a .table .now) (a .size .colours) (a .state .now)) (a .size .components) (g .k) (c .before .before .before .before .if1 .taken) (g .inv .1) (rw e at (c .if2 .taken)))
 
 add-k : tie.Need-add-k Inv-loop μ-loop
 add-k c = omega arith
@@ -81,11 +62,10 @@ loop-less c = omega arith
 
 loop-again : tie.Need-loop-again Inv-loop μ-loop
 loop-again c =
-    let a = c .before .before .before .before .before .before .before .before .before .before .args in
-    let g = c .before .before .before .before .before .before .before .loop in
-    let w : 24 * g .k + 24 - 24 * g .k ≡ 24 = omega arith in
-    let v : 64 * g .k + 64 - 64 * g .k ≡ 64 = omega arith in
-    let e : c .before .good-cell .result ≡ goodCell (a .size .colours) (row (a .table .now) (g .k)) (cell (a .state .now) (g .k)) = rw (w, v) at (c .before .good-cell .ensures) in
+    let a = c .before .before .before .before .before .before .before .before .before .args in
+    let g = c .before .before .before .before .before .before .loop in
+    let v : cellSize * g .k + cellSize - cellSize * g .k ≡ cellSize = omega arith in
+    let e : c .before .good-cell .result ≡ goodCell (a .size .colours) (row (a .table .now) (g .k)) (cell (a .state .now) (g .k)) = rw v at (c .before .good-cell .ensures) in
     (omega arith, below-more (λ (j : ℕ). bad (a .table .now) (a .size .colours) (a .state .now) j ≡ false) (g .k) (g .inv .1) (rw e at (c .if2 .left)))
 
 returns-2 : tie.Need-returns-2 Inv-loop μ-loop
@@ -102,17 +82,12 @@ first-bad-cell-spec =
     Inv-loop
     μ-loop
     loop-holds
-    mul-f
-    add-t
-    mul-g
-    add-h
+    mul-at
+    add-end
+    cast-good-cell
     sub-good-cell
     part-good-cell-start
     part-good-cell-end
-    cast-good-cell
-    sub-good-cell-2
-    part-good-cell-start-2
-    part-good-cell-end-2
     good-cell-requires
     returns
     add-k

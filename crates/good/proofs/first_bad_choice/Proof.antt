@@ -14,11 +14,6 @@ use Rattle.good.specs.Sets.{ChoiceSets}
 use Rattle.good.proofs.Sets.{choice-is}
 use Rattle.good.proofs.first_bad_choice.Statement.{statement}
 use Rattle.good.proofs.first_bad_choice.Tie as tie
-use Rattle.good.proofs.first_bad_choice.Reads as reads
-use Rattle.good.proofs.first_bad_choice.Lts as lts
-use Rattle.good.proofs.allowed_steps.Reads as allowed-steps-reads
-use Rattle.good.proofs.choice_sets.Reads as choice-sets-reads
-use Rattle.good.proofs.in_set.Reads as in-set-reads
 
 abbrev Inv-loop : tie.InvT-loop
 Inv-loop table size choices sets o₀ o = ChoiceSets table (size .components) sets × (o ≤ length choices) × ((i : ℕ) → i < o → choiceAt (netlist 0 0 (size .components) table) choices i ≡ true)
@@ -53,11 +48,12 @@ in-set-requires c κs = search needs
 returns : tie.Need-returns Inv-loop μ-loop
 unfolding badChoice choiceAt
 returns c =
-    let z = c .before .before .before .before .before .before .before .before .before .before .before .before in
-    let g = c .before .before .before .before .before .loop in
+    let earlier = c .before .before .before .before .before in
+    let z = earlier .before .before .before .before .before .before .before in
+    let g = earlier .loop in
     let f = netlist 0 0 (z .args .size .components) (z .args .table .now) in
     let e : c .before .in-set .result ≡ choiceAt f (z .args .choices .now) (g .o) = c .before .in-set .ensures ∙ choice-is f _ (z .args .choices .now) (g .inv .0) (z .pre .0) (g .o) in
-    sym (least-at (λ o. not (choiceAt f (z .args .choices .now) o)) (length (z .args .choices .now)) (g .o) (omega (arith, c .before .before .before .before .before .before .before .before .before .before .before .before .pre .0, c .before .before .before .before .before .before .before .before .before .before .before .before .pre .1, c .before .before .before .before .loop-test .taken, c .before .before .before .before .before .loop .inv .1)) (λ i h. ap not (g .inv .2 i h)) (rw e at (c .if1 .taken)))
+    sym (least-at (λ o. not (choiceAt f (z .args .choices .now) o)) (length (z .args .choices .now)) (g .o) (omega (arith, z .pre .0, z .pre .1, c .before .before .before .before .loop-test .taken, g .inv .1)) (λ i h. ap not (g .inv .2 i h)) (rw e at (c .if1 .taken)))
 
 add-o : tie.Need-add-o Inv-loop μ-loop
 add-o c = omega (arith, c .before .before .before .before .before .before .before .before .before .before .before .before .pre .0, c .before .before .before .before .before .before .before .before .before .before .before .before .pre .1, c .before .before .before .before .loop-test .taken, c .before .before .before .before .before .loop .inv .1)
@@ -67,11 +63,12 @@ loop-less c = omega (arith, c .before .before .before .before .before .before .b
 
 loop-again : tie.Need-loop-again Inv-loop μ-loop
 loop-again c =
-    let z = c .before .before .before .before .before .before .before .before .before .before .before .before in
-    let g = c .before .before .before .before .before .loop in
+    let earlier = c .before .before .before .before .before in
+    let z = earlier .before .before .before .before .before .before .before in
+    let g = earlier .loop in
     let f = netlist 0 0 (z .args .size .components) (z .args .table .now) in
     let e : c .before .in-set .result ≡ choiceAt f (z .args .choices .now) (g .o) = c .before .in-set .ensures ∙ choice-is f _ (z .args .choices .now) (g .inv .0) (z .pre .0) (g .o) in
-    (g .inv .0, omega (arith, c .before .before .before .before .before .before .before .before .before .before .before .before .pre .0, c .before .before .before .before .before .before .before .before .before .before .before .before .pre .1, c .before .before .before .before .loop-test .taken, c .before .before .before .before .before .loop .inv .1), below-more (λ (i : ℕ). choiceAt f (z .args .choices .now) i ≡ true) (g .o) (g .inv .2) (sym e ∙ not-false _ (c .if1 .left)))
+    (g .inv .0, omega (arith, z .pre .0, z .pre .1, c .before .before .before .before .loop-test .taken, g .inv .1), below-more (λ (i : ℕ). choiceAt f (z .args .choices .now) i ≡ true) (g .o) (g .inv .2) (sym e ∙ not-false _ (c .if1 .left)))
 
 returns-2 : tie.Need-returns-2 Inv-loop μ-loop
 unfolding badChoice choiceAt

@@ -1,43 +1,41 @@
+use mathlib.Core.Path.{sym, _∙_}
 use borrow.Author.Needs.{needs}
 use Rattle.component.specs.Kind.{kindOf}
 use Rattle.cells.specs.Good.{goodByte}
 use Rattle.good.proofs.Cells.{first-rest}
 use Rattle.good.proofs.first_good.Statement.{statement}
 use Rattle.good.proofs.first_good.Tie as tie
-use Rattle.good.proofs.first_good.Reads as reads
-use Rattle.good.proofs.first_good.Lts as lts
-use Rattle.good.proofs.is_emitted.Reads as is-emitted-reads
 
-shared-slice-read-kind : tie.Need-shared-slice-read-kind
-shared-slice-read-kind c = search needs
+kind-requires : tie.Need-kind-requires
+kind-requires c κs = search needs
 
-shared-slice-read-most : tie.Need-shared-slice-read-most
-shared-slice-read-most c = search needs
+capacity-requires : tie.Need-capacity-requires
+capacity-requires c κs = search needs
 
 is-emitted-requires : tie.Need-is-emitted-requires
 is-emitted-requires c κs = search needs
 
 returns : tie.Need-returns
 unfolding goodByte kindOf
-returns c = λ u v. rw (c .before .match .keys1) (c .is-emitted .ensures)
+returns c = λ u v. rw (sym (c .before .before .before .kind .ensures) ∙ c .before .match .keys1) (c .is-emitted .ensures)
 
 returns-2 : tie.Need-returns-2
 unfolding goodByte kindOf
-returns-2 c = λ u v. rw (c .match .keys2)
+returns-2 c = λ u v. rw (sym (c .before .before .kind .ensures) ∙ c .match .keys2)
 
 returns-3 : tie.Need-returns-3
 unfolding goodByte kindOf
-returns-3 c = λ u v. rw (c .match .keys3)
+returns-3 c = λ u v. rw (sym (c .before .before .kind .ensures) ∙ c .match .keys3, c .before .capacity .ensures)
 
 returns-4 : tie.Need-returns-4
-returns-4 c = λ u v. first-rest _ _ u v _ (c .match .rest .0 .0 .1) (c .match .rest .0 .1) (c .match .rest .1)
+returns-4 c = λ u v. rw (← c .before .before .kind .ensures) (first-rest _ _ u v _ (c .match .rest .0 .0 .1) (c .match .rest .0 .1) (c .match .rest .1))
 
 pub first-good-spec : {M : Type 1} → statement M
 first-good-spec =
     tie.close
     (tie.spec
-    shared-slice-read-kind
-    shared-slice-read-most
+    kind-requires
+    capacity-requires
     is-emitted-requires
     returns
     returns-2

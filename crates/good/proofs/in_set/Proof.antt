@@ -3,8 +3,6 @@ use borrow.Author.Needs.{needs}
 use Rattle.good.specs.Sets.{inSet}
 use Rattle.good.proofs.in_set.Statement.{statement}
 use Rattle.good.proofs.in_set.Tie as tie
-use Rattle.good.proofs.in_set.Reads as reads
-use Rattle.good.proofs.in_set.Lts as lts
 
 sub-result : tie.Need-sub-result
 sub-result c = search needs

@@ -4,8 +4,6 @@ use borrow.Author.Needs.{needs}
 use Rattle.good.proofs.Cells.{emitted-at}
 use Rattle.good.proofs.is_emitted.Statement.{statement}
 use Rattle.good.proofs.is_emitted.Tie as tie
-use Rattle.good.proofs.is_emitted.Reads as reads
-use Rattle.good.proofs.is_emitted.Lts as lts
 
 returns : tie.Need-returns
 returns c = search needs
@@ -13,21 +11,33 @@ returns c = search needs
 sub-d : tie.Need-sub-d
 sub-d c = search needs
 
-shared-slice-read-mask : tie.Need-shared-slice-read-mask
-shared-slice-read-mask c = search needs
+mask-requires : tie.Need-mask-requires
+mask-requires c κs = search needs
 
-sub-s : tie.Need-sub-s
-sub-s c = search needs
+wide-requires : tie.Need-wide-requires
+wide-requires c κs = search needs
 
-shr-result : tie.Need-shr-result
-shr-result c = search needs
+wide-requires-2 : tie.Need-wide-requires-2
+wide-requires-2 c κs = search needs
+
+has-colour-requires : tie.Need-has-colour-requires
+has-colour-requires c κs = search needs
 
 returns-2 : tie.Need-returns-2
-returns-2 c = sym (emitted-at _ _ (c .before .before .if1 .left) ∙ rw (lt-ltb _ _ (c .before .if2 .taken)))
+returns-2 c = rw (c .has-colour .ensures, c .before .wide2 .ensures .0, c .before .before .wide .ensures .0 ∙ c .before .before .before .mask .ensures) (sym (emitted-at _ _ (c .before .before .before .before .before .if1 .left) ∙ rw (lt-ltb _ _ (c .before .before .before .before .if2 .taken))))
 
 returns-3 : tie.Need-returns-3
 returns-3 c = sym (emitted-at _ _ (c .before .if1 .left) ∙ rw (le-ltb _ _ (c .if2 .left)))
 
 pub is-emitted-spec : {M : Type 1} → statement M
 is-emitted-spec =
-    tie.close (tie.spec returns sub-d shared-slice-read-mask sub-s shr-result returns-2 returns-3)
+    tie.close
+    (tie.spec
+    returns
+    sub-d
+    mask-requires
+    wide-requires
+    wide-requires-2
+    has-colour-requires
+    returns-2
+    returns-3)

@@ -8,9 +8,6 @@ use Rattle.good.specs.Sets.{inSet}
 use Rattle.good.proofs.Cells.{all-turn, all-none}
 use Rattle.good.proofs.step_allowed.Statement.{statement}
 use Rattle.good.proofs.step_allowed.Tie as tie
-use Rattle.good.proofs.step_allowed.Reads as reads
-use Rattle.good.proofs.step_allowed.Lts as lts
-use Rattle.good.proofs.in_set.Reads as in-set-reads
 
 abbrev Inv-loop : tie.InvT-loop
 Inv-loop sets components choices good₀ k₀ good k = (k ≤ components) × (good ≡ all k (λ i. inSet (getD sets i 0) (getD choices i 0)))

@@ -7,8 +7,6 @@ use Rattle.cells.specs.Good.{all}
 use Rattle.good.proofs.Cells.{all-turn, all-none}
 use Rattle.good.proofs.zeros.Statement.{statement}
 use Rattle.good.proofs.zeros.Tie as tie
-use Rattle.good.proofs.zeros.Reads as reads
-use Rattle.good.proofs.zeros.Lts as lts
 
 abbrev Inv-loop : tie.InvT-loop
 Inv-loop cell from n good₀ j₀ good j = (j ≤ n) × (good ≡ all j (λ i. eqb (getD cell (from + i) 0) 0))

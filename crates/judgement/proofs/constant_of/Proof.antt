@@ -3,11 +3,11 @@ use Prim.Native.Nat.{ℕ, _*_, _-_, _^_, _≤_}
 use lib.IntN.{ℤ, natAbs, _+ℤ_}
 use mir.Syntax.{w64}
 use mir.Val.{toZ}
+use native.Mathlib.Omega.{arith}
 use Rattle.integers.specs.Sum.{sumTo}
 use Rattle.integers.proofs.Near.{held-fits, held, natAbs-add}
 use Rattle.integers.proofs.Sum.{sum-none, sum-more}
 use Rattle.judgement.specs.Judged.{shareOf}
-use native.Mathlib.Omega.{arith}
 use Rattle.judgement.proofs.constant_of.Statement.{statement}
 use Rattle.judgement.proofs.constant_of.Tie as tie
 
@@ -23,13 +23,13 @@ loop-holds c = (omega arith, (sym (sum-none (shareOf (c .before .args .table .no
 share-requires : tie.Need-share-requires Inv-loop μ-loop
 share-requires c κs =
     let b = c .before .before .before in
-    let r = b .pre .0 .rows (c .before .loop .q) (c .loop-test .taken) in
-    ((omega (arith, b .pre .0 .fewRows), omega (arith, b .pre .0 .long), omega (arith, r .fillColours, b .pre .0 .fewColours)), b .pre .1)
+    let r = b .pre .0 .facts .rows (c .before .loop .q) (c .loop-test .taken) in
+    ((omega (arith, b .pre .0 .facts .fewRows), omega (arith, b .pre .0 .facts .long), omega (arith, r .fillColours, b .pre .0 .facts .fewColours)), b .pre .1)
 
 add-k : tie.Need-add-k Inv-loop μ-loop
 add-k c =
     let b = c .before .before .before .before in
-    held-fits (toZ w64 (c .before .before .loop .k)) (c .share .result) (2 ^ 48 * c .before .before .loop .q) (2 ^ 48) (c .before .before .loop .inv .1 .1) (c .share .ensures .1) (omega (arith, b .pre .0 .fewRows))
+    held-fits (toZ w64 (c .before .before .loop .k)) (c .share .result) (2 ^ 48 * c .before .before .loop .q) (2 ^ 48) (c .before .before .loop .inv .1 .1) (c .share .ensures .1) (omega (arith, b .pre .0 .facts .fewRows))
 
 add-q : tie.Need-add-q Inv-loop μ-loop
 add-q c = omega arith
@@ -43,7 +43,7 @@ loop-again c =
     let i = c .before .before .loop .inv in
     let q = c .before .before .loop .q in
     let f = shareOf (b .args .table .now) (b .args .w .now) in
-    let e = held (toZ w64 (c .before .before .loop .k)) (c .share .result) (2 ^ 48 * q) (2 ^ 48) (i .1 .1) (c .share .ensures .1) (omega (arith, b .pre .0 .fewRows)) in (
+    let e = held (toZ w64 (c .before .before .loop .k)) (c .share .result) (2 ^ 48 * q) (2 ^ 48) (i .1 .1) (c .share .ensures .1) (omega (arith, b .pre .0 .facts .fewRows)) in (
       omega arith,
       (
         e ∙ ap (λ (z : ℤ). z +ℤ c .share .result) (i .1 .0) ∙ ap (λ (z : ℤ). sumTo q f +ℤ z) (c .share .ensures .0) ∙ sym (sum-more q f),

@@ -1,16 +1,15 @@
 use mathlib.Core.Path.{sym, ap, _∙_}
 use mir.Syntax.{w64}
 use mir.ValLaws.{toZ-ofZ}
-use Rattle.integers.specs.Sum.{sumTo}
-use Rattle.netlist.specs.Netlist.{netlistOf}
-use Rattle.refusals.specs.declared.Verdict.{Verdict}
 use Prim.Native.Nat.{_*_, _≤_}
-use Rattle.digits.specs.Least.{least}
-use Rattle.judgement.specs.Judged.{notZero, sumsVerdict, shareOf, orZero}
-use Rattle.judgement.proofs.Judged.{refused-or, sums-flow, sums-weightless, sums-accepted}
-use native.Mathlib.Omega.{arith}
 use native.Mathlib.Omega.{arith}
 use borrow.Author.Needs.{needs}
+use Rattle.digits.specs.Least.{least}
+use Rattle.integers.specs.Sum.{sumTo}
+use Rattle.refusals.specs.declared.Verdict.{Verdict}
+use Rattle.netlist.specs.Netlist.{netlistOf}
+use Rattle.judgement.specs.Judged.{notZero, sumsVerdict, shareOf, orZero}
+use Rattle.judgement.proofs.Judged.{refused-or, sums-flow, sums-weightless, sums-accepted}
 use Rattle.judgement.proofs.judge_sums.Statement.{statement}
 use Rattle.judgement.proofs.judge_sums.Tie as tie
 

@@ -3,11 +3,11 @@ use mathlib.Core.Bool.{not}
 use Prim.Native.Nat.{_-_, _≤_}
 use lib.ListN.{getD}
 use lib.IntN.{pos}
-use Rattle.integers.proofs.Near.{zero-bits, nonzero-bits}
+use native.Mathlib.Omega.{arith}
 use Rattle.digits.proofs.Least.{least-at, least-none}
+use Rattle.integers.proofs.Near.{zero-bits, nonzero-bits}
 use Rattle.judgement.specs.Judged.{notZero, Zeros}
 use Rattle.judgement.proofs.Judged.{zeros-none, zeros-more}
-use native.Mathlib.Omega.{arith}
 use Rattle.judgement.proofs.lowest.Statement.{statement}
 use Rattle.judgement.proofs.lowest.Tie as tie
 

@@ -1,10 +1,11 @@
 use mathlib.Core.Path.{sym, _∙_}
+use native.Mathlib.Omega.{arith}
+use borrow.Author.Needs.{needs}
 use Rattle.integers.proofs.Tables.{summed-zeros}
+use Rattle.component.specs.Limits.{mostFlows}
 use Rattle.netlist.specs.Netlist.{netlistOf}
 use Rattle.sums.proofs.Sums.{counts-near}
 use Rattle.judgement.proofs.Judged.{length-short, refused-is, judged-length, judged-term, sums-judged, sums-constant, all-weighed}
-use native.Mathlib.Omega.{arith}
-use borrow.Author.Needs.{needs}
 use Rattle.judgement.proofs.weigh.Statement.{statement}
 use Rattle.judgement.proofs.weigh.Tie as tie
 
@@ -27,7 +28,7 @@ add-terms-requires c κs =
     let f = netlistOf (b .args .size) (b .args .table .now) in
     let p = b .args .proposal .now in
     let short = sym (c .before .before .before .bad-length .ensures) ∙ c .before .before .if1 .left in
-    (b .pre .0, (length-short p short, (summed-zeros 2040, b .pre .1)))
+    (b .pre .0, (length-short p short, (summed-zeros mostFlows, b .pre .1)))
 
 enum-known-named : tie.Need-enum-known-named
 enum-known-named c = search needs

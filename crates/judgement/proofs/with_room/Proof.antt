@@ -1,8 +1,8 @@
 use mathlib.Core.Path.{sym, ap, _∙_}
+use borrow.Author.Needs.{needs}
 use Rattle.refusals.specs.declared.Verdict.{Verdict}
 use Rattle.refusals.proofs.Room.{room-accepted}
 use Rattle.judgement.specs.Judged.{orZero}
-use borrow.Author.Needs.{needs}
 use Rattle.judgement.proofs.with_room.Statement.{statement}
 use Rattle.judgement.proofs.with_room.Tie as tie
 

@@ -6,12 +6,12 @@ use lib.IntN.{pos}
 use mir.Syntax.{w64}
 use mir.Val.{toZ, ofZ}
 use mir.ValLaws.{toZ-ofZ}
+use native.Mathlib.Omega.{arith}
 use Rattle.digits.specs.UpTo.{upTo}
 use Rattle.digits.proofs.UpTo.{filled-none, length-filled}
 use Rattle.flows.specs.Verdict.{weightByte}
 use Rattle.judgement.specs.Judged.{laid}
 use Rattle.judgement.proofs.Bytes.{entry-more}
-use native.Mathlib.Omega.{arith}
 use Rattle.judgement.proofs.write_bytes.Statement.{statement}
 use Rattle.judgement.proofs.write_bytes.Tie as tie
 

@@ -5,9 +5,9 @@ use lib.ListN.{length, getD, set, drop}
 use lib.IntN.{ℤ, pos}
 use mir.Syntax.{w64}
 use mir.ValLaws.{toZ-ofZ}
+use native.Mathlib.Omega.{arith}
 use Rattle.digits.specs.UpTo.{upTo}
 use Rattle.digits.proofs.UpTo.{filled-none, filled-more, length-filled}
-use native.Mathlib.Omega.{arith}
 use Rattle.judgement.proofs.write_entries.Statement.{statement}
 use Rattle.judgement.proofs.write_entries.Tie as tie
 

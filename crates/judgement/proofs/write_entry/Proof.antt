@@ -5,11 +5,11 @@ use lib.ListN.{length, drop}
 use mir.Syntax.{w64}
 use mir.Val.{toZ, ofZ}
 use mir.ValLaws.{toZ-ofZ}
+use native.Mathlib.Omega.{arith}
 use Rattle.digits.specs.UpTo.{upTo}
 use Rattle.digits.proofs.UpTo.{length-filled}
 use Rattle.judgement.specs.Judged.{laid}
 use Rattle.judgement.proofs.Bytes.{laidByte, laid-none, laid-more}
-use native.Mathlib.Omega.{arith}
 use Rattle.judgement.proofs.write_entry.Statement.{statement}
 use Rattle.judgement.proofs.write_entry.Tie as tie
 

@@ -1,12 +1,8 @@
 use mathlib.Core.Path.{ap, _∙_}
-use Rattle.refusals.specs.Refusals.{numberOf}
 use borrow.Author.Needs.{needs}
+use Rattle.refusals.specs.Refusals.{numberOf}
 use Rattle.kit.proofs.fabric_check.Statement.{statement}
 use Rattle.kit.proofs.fabric_check.Tie as tie
-use Rattle.kit.proofs.fabric_check.Reads as reads
-use Rattle.kit.proofs.fabric_check.Lts as lts
-use Rattle.checking.proofs.check_bytes.Reads as check-bytes-reads
-use Rattle.refusals.proofs.number_of.Reads as number-of-reads
 
 check-bytes-requires : tie.Need-check-bytes-requires
 check-bytes-requires c κs = search needs

@@ -1,12 +1,8 @@
 use mathlib.Core.Path.{ap, _∙_}
-use Rattle.refusals.specs.Refusals.{placeOf}
 use borrow.Author.Needs.{needs}
+use Rattle.refusals.specs.Refusals.{placeOf}
 use Rattle.kit.proofs.fabric_check_place.Statement.{statement}
 use Rattle.kit.proofs.fabric_check_place.Tie as tie
-use Rattle.kit.proofs.fabric_check_place.Reads as reads
-use Rattle.kit.proofs.fabric_check_place.Lts as lts
-use Rattle.checking.proofs.check_answer.Reads as check-answer-reads
-use Rattle.refusals.proofs.place_of.Reads as place-of-reads
 
 check-answer-requires : tie.Need-check-answer-requires
 check-answer-requires c κs = search needs

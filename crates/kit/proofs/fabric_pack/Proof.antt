@@ -1,12 +1,8 @@
 use mathlib.Core.Path.{ap, _∙_}
-use Rattle.refusals.specs.Refusals.{numberOf}
 use borrow.Author.Needs.{needs}
+use Rattle.refusals.specs.Refusals.{numberOf}
 use Rattle.kit.proofs.fabric_pack.Statement.{statement}
 use Rattle.kit.proofs.fabric_pack.Tie as tie
-use Rattle.kit.proofs.fabric_pack.Reads as reads
-use Rattle.kit.proofs.fabric_pack.Lts as lts
-use Rattle.refusals.proofs.number_of.Reads as number-of-reads
-use Rattle.fabric.proofs.pack.Reads as pack-reads
 
 pack-requires : tie.Need-pack-requires
 pack-requires c κs = search needs

@@ -1,12 +1,8 @@
 use mathlib.Core.Path.{ap, _∙_}
-use Rattle.refusals.specs.Refusals.{placeOf}
 use borrow.Author.Needs.{needs}
+use Rattle.refusals.specs.Refusals.{placeOf}
 use Rattle.kit.proofs.fabric_pack_place.Statement.{statement}
 use Rattle.kit.proofs.fabric_pack_place.Tie as tie
-use Rattle.kit.proofs.fabric_pack_place.Reads as reads
-use Rattle.kit.proofs.fabric_pack_place.Lts as lts
-use Rattle.fabric.proofs.pack_answer.Reads as pack-answer-reads
-use Rattle.refusals.proofs.place_of.Reads as place-of-reads
 
 pack-answer-requires : tie.Need-pack-answer-requires
 pack-answer-requires c κs = search needs

@@ -1,12 +1,8 @@
 use mathlib.Core.Path.{ap, _∙_}
-use Rattle.refusals.specs.Refusals.{numberOf}
 use borrow.Author.Needs.{needs}
+use Rattle.refusals.specs.Refusals.{numberOf}
 use Rattle.kit.proofs.fabric_run.Statement.{statement}
 use Rattle.kit.proofs.fabric_run.Tie as tie
-use Rattle.kit.proofs.fabric_run.Reads as reads
-use Rattle.kit.proofs.fabric_run.Lts as lts
-use Rattle.stepping.proofs.run.Reads as run-reads
-use Rattle.refusals.proofs.number_of.Reads as number-of-reads
 
 run-requires : tie.Need-run-requires
 run-requires c κs = search needs

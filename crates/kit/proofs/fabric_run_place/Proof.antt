@@ -1,12 +1,8 @@
 use mathlib.Core.Path.{ap, _∙_}
-use Rattle.refusals.specs.Refusals.{placeOf}
 use borrow.Author.Needs.{needs}
+use Rattle.refusals.specs.Refusals.{placeOf}
 use Rattle.kit.proofs.fabric_run_place.Statement.{statement}
 use Rattle.kit.proofs.fabric_run_place.Tie as tie
-use Rattle.kit.proofs.fabric_run_place.Reads as reads
-use Rattle.kit.proofs.fabric_run_place.Lts as lts
-use Rattle.stepping.proofs.run_answer.Reads as run-answer-reads
-use Rattle.refusals.proofs.place_of.Reads as place-of-reads
 
 run-answer-requires : tie.Need-run-answer-requires
 run-answer-requires c κs = search needs

@@ -1,12 +1,8 @@
 use mathlib.Core.Path.{ap, _∙_}
-use Rattle.refusals.specs.Refusals.{numberOf}
 use borrow.Author.Needs.{needs}
+use Rattle.refusals.specs.Refusals.{numberOf}
 use Rattle.kit.proofs.fabric_start.Statement.{statement}
 use Rattle.kit.proofs.fabric_start.Tie as tie
-use Rattle.kit.proofs.fabric_start.Reads as reads
-use Rattle.kit.proofs.fabric_start.Lts as lts
-use Rattle.stepping.proofs.start.Reads as start-reads
-use Rattle.refusals.proofs.number_of.Reads as number-of-reads
 
 start-requires : tie.Need-start-requires
 start-requires c κs = search needs

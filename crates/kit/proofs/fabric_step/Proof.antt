@@ -1,12 +1,8 @@
 use mathlib.Core.Path.{ap, _∙_}
-use Rattle.refusals.specs.Refusals.{numberOf}
 use borrow.Author.Needs.{needs}
+use Rattle.refusals.specs.Refusals.{numberOf}
 use Rattle.kit.proofs.fabric_step.Statement.{statement}
 use Rattle.kit.proofs.fabric_step.Tie as tie
-use Rattle.kit.proofs.fabric_step.Reads as reads
-use Rattle.kit.proofs.fabric_step.Lts as lts
-use Rattle.stepping.proofs.step.Reads as step-reads
-use Rattle.refusals.proofs.number_of.Reads as number-of-reads
 
 step-requires : tie.Need-step-requires
 step-requires c κs = search needs

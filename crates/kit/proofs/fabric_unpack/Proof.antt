@@ -1,14 +1,9 @@
 use mathlib.Core.Path.{ap, _∙_}
+use borrow.Author.Needs.{needs}
 use Rattle.refusals.specs.Refusals.{numberOf}
 use Rattle.reader.specs.Reading.{verdictOf}
-use borrow.Author.Needs.{needs}
 use Rattle.kit.proofs.fabric_unpack.Statement.{statement}
 use Rattle.kit.proofs.fabric_unpack.Tie as tie
-use Rattle.kit.proofs.fabric_unpack.Reads as reads
-use Rattle.kit.proofs.fabric_unpack.Lts as lts
-use Rattle.refusals.proofs.number_of.Reads as number-of-reads
-use Rattle.fabric.proofs.unpack.Reads as unpack-reads
-use Rattle.reader.proofs.verdict_of.Reads as verdict-of-reads
 
 unpack-requires : tie.Need-unpack-requires
 unpack-requires c κs = search needs

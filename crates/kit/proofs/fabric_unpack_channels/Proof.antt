@@ -1,12 +1,8 @@
 use mathlib.Core.Path.{ap, _∙_}
-use Rattle.reader.specs.Reading.{channelsOf}
 use borrow.Author.Needs.{needs}
+use Rattle.reader.specs.Reading.{channelsOf}
 use Rattle.kit.proofs.fabric_unpack_channels.Statement.{statement}
 use Rattle.kit.proofs.fabric_unpack_channels.Tie as tie
-use Rattle.kit.proofs.fabric_unpack_channels.Reads as reads
-use Rattle.kit.proofs.fabric_unpack_channels.Lts as lts
-use Rattle.reader.proofs.channels_of.Reads as channels-of-reads
-use Rattle.fabric.proofs.unpack_answer.Reads as unpack-answer-reads
 
 unpack-answer-requires : tie.Need-unpack-answer-requires
 unpack-answer-requires c κs = search needs

@@ -1,12 +1,8 @@
 use mathlib.Core.Path.{ap, _∙_}
-use Rattle.reader.specs.Reading.{coloursOf}
 use borrow.Author.Needs.{needs}
+use Rattle.reader.specs.Reading.{coloursOf}
 use Rattle.kit.proofs.fabric_unpack_colours.Statement.{statement}
 use Rattle.kit.proofs.fabric_unpack_colours.Tie as tie
-use Rattle.kit.proofs.fabric_unpack_colours.Reads as reads
-use Rattle.kit.proofs.fabric_unpack_colours.Lts as lts
-use Rattle.reader.proofs.colours_of.Reads as colours-of-reads
-use Rattle.fabric.proofs.unpack_answer.Reads as unpack-answer-reads
 
 unpack-answer-requires : tie.Need-unpack-answer-requires
 unpack-answer-requires c κs = search needs

@@ -1,14 +1,9 @@
 use mathlib.Core.Path.{ap, _∙_}
+use borrow.Author.Needs.{needs}
 use Rattle.refusals.specs.Refusals.{placeOf}
 use Rattle.reader.specs.Reading.{verdictOf}
-use borrow.Author.Needs.{needs}
 use Rattle.kit.proofs.fabric_unpack_place.Statement.{statement}
 use Rattle.kit.proofs.fabric_unpack_place.Tie as tie
-use Rattle.kit.proofs.fabric_unpack_place.Reads as reads
-use Rattle.kit.proofs.fabric_unpack_place.Lts as lts
-use Rattle.refusals.proofs.place_of.Reads as place-of-reads
-use Rattle.fabric.proofs.unpack_answer.Reads as unpack-answer-reads
-use Rattle.reader.proofs.verdict_of.Reads as verdict-of-reads
 
 unpack-answer-requires : tie.Need-unpack-answer-requires
 unpack-answer-requires c κs = search needs

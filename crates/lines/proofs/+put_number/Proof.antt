@@ -1,14 +1,14 @@
 use borrow.Author.Needs.{needs}
 use native.Mathlib.Omega.{arith}
 use Prim.Native.Nat.{ℕ, _+_, _/_, _%_, _^_, _<_}
-use Rattle.lines.proofs.Decimal.{decimal-one, decimal-more, decimal-short, decimal-few}
-use Rattle.lines.proofs.Put.{put-byte, then-byte, put-few}
 use borrow.Fn.Kinds.{In}
 use borrow.Fn.PlainCycle.{Measures, is, falls, and}
-use Rattle.lines.proofs.put_number.Reads as put-number
+use Rattle.lines.proofs.Decimal.{decimal-one, decimal-more, decimal-short, decimal-few}
+use Rattle.lines.proofs.Put.{put-byte, then-byte, put-few}
 use Rattle.lines.proofs.put_number.Kinds as put-number-kinds
-use Rattle.lines.proofs.+put_number.Lts-put_number as put-number-lts
 use Rattle.lines.proofs.+put_number.{statement}
+use Rattle.lines.proofs.put_number.Reads as put-number
+use Rattle.lines.proofs.+put_number.Lts-put_number as put-number-lts
 use Rattle.lines.proofs.+put_number.Tie.{close}
 
 abbrev μ-put-number : Measures 1 put-number-kinds.ps ℕ

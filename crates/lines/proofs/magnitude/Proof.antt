@@ -1,9 +1,9 @@
 use mathlib.Core.Path.{subst⁻¹}
 use mir.Syntax.{w64}
 use mir.Val.{Fits}
+use borrow.Author.Needs.{needs}
 use Rattle.integers.proofs.Twos.{plain-cast, down-fits, down-cast}
 use Rattle.lines.proofs.Signs.{one-more, magnitude-fits}
-use borrow.Author.Needs.{needs}
 use Rattle.lines.proofs.magnitude.Statement.{statement}
 use Rattle.lines.proofs.magnitude.Tie as tie
 

@@ -1,5 +1,5 @@
-use Rattle.lines.proofs.Put.{put-then}
 use borrow.Author.Needs.{needs}
+use Rattle.lines.proofs.Put.{put-then}
 use Rattle.lines.proofs.put_field.Statement.{statement}
 use Rattle.lines.proofs.put_field.Tie as tie
 

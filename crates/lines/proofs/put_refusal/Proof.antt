@@ -1,6 +1,6 @@
+use borrow.Author.Needs.{needs}
 use Rattle.lines.specs.Listing.{refusalLine}
 use Rattle.lines.proofs.Put.{put-then}
-use borrow.Author.Needs.{needs}
 use Rattle.lines.proofs.put_refusal.Statement.{statement}
 use Rattle.lines.proofs.put_refusal.Tie as tie
 
@@ -25,8 +25,9 @@ same-length c = search needs
 returns : tie.Need-returns
 unfolding refusalLine
 returns c =
+    let earlier = c .before .before .before .before .before .before in
     put-then
-    (put-then (put-then (put-then (c .before .before .before .before .before .before .before .before .before .before .before .before .before .before .before .before .before .before .put-byte .ensures) (c .before .before .before .before .before .before .before .before .before .before .before .before .before .before .put-byte2 .ensures)) (c .before .before .before .before .before .before .before .before .before .before .put-field .ensures)) (c .before .before .before .before .before .before .put-field2 .ensures))
+    (put-then (put-then (put-then (earlier .before .before .before .before .before .before .before .before .before .before .before .before .put-byte .ensures) (earlier .before .before .before .before .before .before .before .before .put-byte2 .ensures)) (earlier .before .before .before .before .put-field .ensures)) (earlier .put-field2 .ensures))
     (c .before .before .put-byte3 .ensures)
 
 pub put-refusal-spec : {M : Type 1} → statement M

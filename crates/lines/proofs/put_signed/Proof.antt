@@ -1,7 +1,7 @@
-use Rattle.lines.proofs.Put.{put-then, put-wider}
-use Rattle.lines.proofs.Signs.{not-negative, is-negative}
 use native.Mathlib.Omega.{arith}
 use borrow.Author.Needs.{needs}
+use Rattle.lines.proofs.Put.{put-then, put-wider}
+use Rattle.lines.proofs.Signs.{not-negative, is-negative}
 use Rattle.lines.proofs.put_signed.Statement.{statement}
 use Rattle.lines.proofs.put_signed.Tie as tie
 
@@ -34,9 +34,10 @@ same-length-2 c = search needs
 
 returns-2 : tie.Need-returns-2
 returns-2 c =
-    let b = c .before .before .before .before .before .before .before .before .before .before .before .before .before .before .before in
-    rw (← is-negative (b .args .w) (b .fits .w) (c .before .before .before .before .before .before .before .before .before .before .before .before .before .magnitude .result) (c .before .before .before .before .before .before .before .before .before .before .before .before .before .magnitude .ensures) (c .before .before .before .before .before .before .before .before .before .before .before .before .if1 .left))
-    (put-then (put-then (c .before .before .before .before .before .before .before .before .before .before .put-byte .ensures) (c .before .before .before .before .before .before .put-byte2 .ensures)) (c .before .before .put-number .ensures))
+    let earlier = c .before .before .before .before .before .before in
+    let b = earlier .before .before .before .before .before .before .before .before .before in
+    rw (← is-negative (b .args .w) (b .fits .w) (earlier .before .before .before .before .before .before .before .magnitude .result) (earlier .before .before .before .before .before .before .before .magnitude .ensures) (earlier .before .before .before .before .before .before .if1 .left))
+    (put-then (put-then (earlier .before .before .before .before .put-byte .ensures) (earlier .put-byte2 .ensures)) (c .before .before .put-number .ensures))
 
 pub put-signed-spec : {M : Type 1} → statement M
 put-signed-spec =

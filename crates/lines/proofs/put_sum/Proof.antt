@@ -1,7 +1,7 @@
-use Rattle.lines.proofs.Signs.{handed}
-use Rattle.lines.specs.Listing.{sumLine}
-use Rattle.lines.proofs.Put.{put-then}
 use borrow.Author.Needs.{needs}
+use Rattle.lines.specs.Listing.{sumLine}
+use Rattle.lines.proofs.Signs.{handed}
+use Rattle.lines.proofs.Put.{put-then}
 use Rattle.lines.proofs.put_sum.Statement.{statement}
 use Rattle.lines.proofs.put_sum.Tie as tie
 
@@ -26,11 +26,12 @@ same-length c = search needs
 returns : tie.Need-returns
 unfolding sumLine
 returns c =
-    let b = c .before .before .before .before .before .before .before .before .before .before .before .before .before .before .before .before .before .before .before .before .before in
+    let earlier = c .before .before .before .before .before .before in
+    let b = earlier .before .before .before .before .before .before .before .before .before .before .before .before .before .before .before in
     put-then
     (put-then
-    (put-then (put-then (c .before .before .before .before .before .before .before .before .before .before .before .before .before .before .before .before .before .before .put-byte .ensures) (c .before .before .before .before .before .before .before .before .before .before .before .before .before .before .put-byte2 .ensures)) (c .before .before .before .before .before .before .before .before .before .before .put-byte3 .ensures))
-    (handed (b .args .k) (b .fits .k) (c .before .before .before .before .before .before .put-signed .ensures)))
+    (put-then (put-then (earlier .before .before .before .before .before .before .before .before .before .before .before .before .put-byte .ensures) (earlier .before .before .before .before .before .before .before .before .put-byte2 .ensures)) (earlier .before .before .before .before .put-byte3 .ensures))
+    (handed (b .args .k) (b .fits .k) (earlier .put-signed .ensures)))
     (c .before .before .put-byte4 .ensures)
 
 pub put-sum-spec : {M : Type 1} → statement M

@@ -1,8 +1,8 @@
+use borrow.Author.Needs.{needs}
+use Rattle.integers.proofs.Near.{zero-bits, nonzero-bits}
 use Rattle.lines.proofs.Signs.{handed}
 use Rattle.lines.proofs.Put.{put-none, put-then}
-use Rattle.integers.proofs.Near.{zero-bits, nonzero-bits}
 use Rattle.lines.proofs.Listing.{line-none, line-some}
-use borrow.Author.Needs.{needs}
 use Rattle.lines.proofs.put_weight.Statement.{statement}
 use Rattle.lines.proofs.put_weight.Tie as tie
 
@@ -31,12 +31,13 @@ same-length c = search needs
 
 returns-2 : tie.Need-returns-2
 returns-2 c =
-    let b = c .before .before .before .before .before .before .before .before .before .before .before .before .before .before .before .before .before .before .before .before .before .before in
-    rw (line-some (b .args .u) (b .args .w) (nonzero-bits (b .args .w) (c .before .before .before .before .before .before .before .before .before .before .before .before .before .before .before .before .before .before .before .before .if1 .left)))
+    let earlier = c .before .before .before .before .before .before in
+    let b = earlier .before .before .before .before .before .before .before .before .before .before .before .before .before .before .before .before in
+    rw (line-some (b .args .u) (b .args .w) (nonzero-bits (b .args .w) (earlier .before .before .before .before .before .before .before .before .before .before .before .before .before .before .if1 .left)))
     (put-then
     (put-then
-    (put-then (put-then (c .before .before .before .before .before .before .before .before .before .before .before .before .before .before .before .before .before .before .put-byte .ensures) (c .before .before .before .before .before .before .before .before .before .before .before .before .before .before .put-field .ensures)) (c .before .before .before .before .before .before .before .before .before .before .put-field2 .ensures))
-    (handed (b .args .w) (b .fits .w) (c .before .before .before .before .before .before .put-signed .ensures)))
+    (put-then (put-then (earlier .before .before .before .before .before .before .before .before .before .before .before .before .put-byte .ensures) (earlier .before .before .before .before .before .before .before .before .put-field .ensures)) (earlier .before .before .before .before .put-field2 .ensures))
+    (handed (b .args .w) (b .fits .w) (earlier .put-signed .ensures)))
     (c .before .before .put-byte2 .ensures))
 
 pub put-weight-spec : {M : Type 1} → statement M

@@ -2,12 +2,12 @@ use mathlib.Core.Path.{_≡_, subst}
 use Prim.Native.Nat.{ℕ, _*_, _-_, _≤_}
 use lib.ListN.{length, getD}
 use lib.IntN.{pos}
+use borrow.Author.Needs.{needs}
+use native.Mathlib.Omega.{arith}
 use Rattle.lines.specs.Listing.{weightLines}
 use Rattle.lines.specs.Put.{Put}
 use Rattle.lines.proofs.Put.{put-none, put-wider}
 use Rattle.lines.proofs.Listing.{lines-none, weights-more}
-use borrow.Author.Needs.{needs}
-use native.Mathlib.Omega.{arith}
 use Rattle.lines.proofs.put_weights.Statement.{statement}
 use Rattle.lines.proofs.put_weights.Tie as tie
 

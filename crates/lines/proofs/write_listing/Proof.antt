@@ -1,5 +1,5 @@
-use Rattle.lines.proofs.Text.{text-accepted, text-refused}
 use borrow.Author.Needs.{needs}
+use Rattle.lines.proofs.Text.{text-accepted, text-refused}
 use Rattle.lines.proofs.write_listing.Statement.{statement}
 use Rattle.lines.proofs.write_listing.Tie as tie
 

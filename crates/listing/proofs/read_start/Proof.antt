@@ -1,8 +1,8 @@
-use Rattle.io.proofs.Counting.{counts}
 use mathlib.Core.Path.{_≡_}
 use Prim.Native.Nat.{_-_, _≤_}
 use lib.ListN.{length}
 use borrow.Author.Needs.{needs}
+use Rattle.io.proofs.Counting.{counts}
 use Rattle.listing.proofs.read_start.Statement.{statement}
 use Rattle.listing.proofs.read_start.Tie as tie
 

@@ -11,18 +11,18 @@ use borrow.Author.Needs.{needs}
 use borrow.Author.Count.{below-more}
 use lib.ListN.{length, getD, set}
 use lib.Seq.{getD-set-same}
+use borrow.Fn.Kinds.{In}
+use borrow.Fn.PlainCycle.{Measures, is, falls, and}
 use Rattle.order.specs.Graph.{dep, walks}
 use Rattle.order.specs.Places.{SoundPlaces, Kept, GrownOrder}
 use Rattle.order.proofs.Graph.{walks-zero, walks-suc}
 use Rattle.order.proofs.Places.{room, not-yet, put-good, put-kept}
-use borrow.Fn.Kinds.{In}
-use borrow.Fn.PlainCycle.{Measures, is, falls, and}
-use Rattle.order.proofs.visit.Reads as visit
 use Rattle.order.proofs.visit.Kinds as visit-kinds
+use Rattle.order.proofs.+visit.{statement}
+use Rattle.order.proofs.visit.Reads as visit
 use Rattle.order.proofs.+visit.Lts-visit as visit-lts
 use Rattle.order.proofs.wide.Reads as wide-reads
 use Rattle.order.proofs.put.Reads as put-reads
-use Rattle.order.proofs.+visit.{statement}
 use Rattle.order.proofs.+visit.Tie.{close}
 
 abbrev μ-visit : Measures 3 visit-kinds.ps ℕ

@@ -7,7 +7,7 @@ use native.Mathlib.Nat.{le-of-suc-le-suc, not-suc-le-zero}
 use borrow.Author.Needs.{needs}
 use lib.ListN.{length, take, replicate}
 use lib.Seq.{length-take-le}
-use Rattle.order.specs.Graph.{dep, hasCircle, Sorted, OrderOf}
+use Rattle.order.specs.Graph.{dep, hasCircle, Sorted, OrderOf, mostSignals}
 use Rattle.order.specs.Places.{SoundPlaces}
 use Rattle.order.proofs.Places.{good-none}
 use Rattle.order.proofs.order_of.Statement.{statement}
@@ -20,20 +20,20 @@ take-replicate (suc n) (suc m) v h = ap (λ (l : List ℕ). v ∷ l) (take-repli
 
 -- the first n of 510 zeros
 abbrev part : ℕ → List ℕ
-part n = take n (replicate 510 0)
+part n = take n (replicate mostSignals 0)
 
-part-length : (n : ℕ) → n ≤ 510 → length (part n) ≡ n
-part-length n h = length-take-le n (replicate 510 0) h
+part-length : (n : ℕ) → n ≤ mostSignals → length (part n) ≡ n
+part-length n h = length-take-le n (replicate mostSignals 0) h
 
-part-good : (D O : List ℕ) (n : ℕ) → n ≤ 510 → 4 * n ≤ length D → n ≤ length O → SoundPlaces D (part n) O 0
-part-good D O n h t l = rw (take-replicate n 510 0 h) (good-none D O n t l h)
+part-good : (D O : List ℕ) (n : ℕ) → n ≤ mostSignals → 4 * n ≤ length D → n ≤ length O → SoundPlaces D (part n) O 0
+part-good D O n h t l = rw (take-replicate n mostSignals 0 h) (good-none D O n t l h)
 
-circle-out : (D : List ℕ) (n : ℕ) (O : List ℕ) → n ≤ 510 → hasCircle (dep D) (length (part n)) ≡ true → OrderOf (dep D) n true O
+circle-out : (D : List ℕ) (n : ℕ) (O : List ℕ) → n ≤ mostSignals → hasCircle (dep D) (length (part n)) ≡ true → OrderOf (dep D) n true O
 circle-out D n O h e =
     let e′ : hasCircle (dep D) n ≡ true = subst (λ (m : ℕ). hasCircle (dep D) m ≡ true) (part-length n h) e in
     record { test = sym e′; order = λ f. absurd (true≢false (sym e′ ∙ f)) }
 
-order-out : (D : List ℕ) (n : ℕ) (O : List ℕ) → n ≤ 510 → (hasCircle (dep D) (length (part n)) ≡ false) × Sorted (dep D) (length (part n)) O → OrderOf (dep D) n false O
+order-out : (D : List ℕ) (n : ℕ) (O : List ℕ) → n ≤ mostSignals → (hasCircle (dep D) (length (part n)) ≡ false) × Sorted (dep D) (length (part n)) O → OrderOf (dep D) n false O
 order-out D n O h r =
     let r′ : (hasCircle (dep D) n ≡ false) × Sorted (dep D) n O = subst (λ (m : ℕ). (hasCircle (dep D) m ≡ false) × Sorted (dep D) m O) (part-length n h) r in
     record { test = sym (r′ .0); order = λ f. r′ .1 }

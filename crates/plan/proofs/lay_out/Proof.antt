@@ -1,17 +1,12 @@
 use mathlib.Core.Path.{_≡_}
 use Prim.Native.Nat.{_-_, _*_, _/_, _<_}
-use Rattle.netlist.specs.Netlist.{netlistOf}
-use Rattle.wiring.specs.Signals.{endOf}
-use Rattle.plan.proofs.Plan.{row-kind, Laid, laid-none, laid-more, laid-all, some-end, ends-long, owner, noted}
 use native.Mathlib.Omega.{arith}
 use borrow.Author.Needs.{needs}
+use Rattle.wiring.specs.Signals.{endOf}
+use Rattle.netlist.specs.Netlist.{netlistOf}
+use Rattle.plan.proofs.Plan.{Laid, laid-none, laid-more, laid-all, some-end, ends-long, owner, noted}
 use Rattle.plan.proofs.lay_out.Statement.{statement}
 use Rattle.plan.proofs.lay_out.Tie as tie
-use Rattle.plan.proofs.lay_out.Reads as reads
-use Rattle.plan.proofs.lay_out.Lts as lts
-use Rattle.plan.proofs.end_before.Reads as end-before-reads
-use Rattle.plan.proofs.put_place.Reads as put-place-reads
-use Rattle.plan.proofs.wide.Reads as wide-reads
 
 abbrev Inv-loop : tie.InvT-loop
 Inv-loop table ends size order plan₀ i₀ plan i = Laid (netlistOf size table) order plan₀ plan i
@@ -59,7 +54,7 @@ put-place-requires c κs =
     noted (p .0) _ _ h (c .before .end-before .ensures) in
     let k : c .before .end-before .result / 3 < c .before .before .before .before .before .before .before .before .before .before .before .args .size .components = rw e (owner (p .0) _ h) in (
       (omega (arith, l .inv .long, p .1, c .before .before .before .before .before .if1 .taken), omega (arith, p .0 .fewChannels, c .before .before .before .before .before .if1 .taken), omega (arith, h, p .0 .fewChannels)),
-      (omega (arith, k, p .0 .fewRows), omega (arith, k, p .0 .long), rw (← row-kind (c .before .before .before .before .before .before .before .before .before .before .before .args .table .now) (c .before .end-before .result / 3)) (p .0 .rows _ k .kinds)),
+      (omega (arith, k, p .0 .fewRows), omega (arith, k, p .0 .long), p .0 .rows _ k .kinds),
     )
 
 add-i : tie.Need-add-i Inv-loop μ-loop
@@ -70,7 +65,8 @@ loop-less c = search needs
 
 loop-again : tie.Need-loop-again Inv-loop μ-loop
 loop-again c =
-    laid-more (c .before .before .before .before .before .before .before .before .before .before .before .before .before .before .pre .0) (c .before .before .before .before .before .before .before .before .before .before .loop .inv) (c .before .before .before .before .before .before .before .before .if1 .taken) (c .before .before .before .before .before .before .before .before .before .before .before .before .before .before .pre .1) _ _ (c .before .before .before .before .before .before .wide .ensures) (c .before .before .before .before .end-before .ensures) _
+    let earlier = c .before .before .before .before .before .before in
+    laid-more (earlier .before .before .before .before .before .before .before .before .pre .0) (earlier .before .before .before .before .loop .inv) (earlier .before .before .if1 .taken) (earlier .before .before .before .before .before .before .before .before .pre .1) _ _ (earlier .wide .ensures) (c .before .before .before .before .end-before .ensures) _
     (c .before .before .put-place .ensures)
 
 same-length : tie.Need-same-length Inv-loop μ-loop

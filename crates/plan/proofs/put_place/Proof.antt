@@ -1,22 +1,13 @@
-use Prim.Native.Nat.{_/_}
+use mathlib.Core.Path.{_∙_}
 use lib.ListN.{length-set}
-use lib.Dec.{lit<}
 use native.Mathlib.Omega.{arith}
-use Rattle.record.proofs.Table.{row-at}
-use Rattle.plan.proofs.Plan.{row-kind}
 use borrow.Author.Needs.{needs}
+use Rattle.component.specs.Kind.{portOf}
 use Rattle.plan.proofs.put_place.Statement.{statement}
 use Rattle.plan.proofs.put_place.Tie as tie
-use Rattle.plan.proofs.put_place.Reads as reads
-use Rattle.plan.proofs.put_place.Lts as lts
-use Rattle.plan.proofs.narrow.Reads as narrow-reads
-use Rattle.plan.proofs.widened.Reads as widened-reads
 
-mul-f : tie.Need-mul-f
-mul-f c = search needs
-
-shared-slice-read-widened : tie.Need-shared-slice-read-widened
-shared-slice-read-widened c = search needs
+kind-requires : tie.Need-kind-requires
+kind-requires c κs = search needs
 
 widened-requires : tie.Need-widened-requires
 widened-requires c κs = search needs
@@ -60,11 +51,8 @@ mul-plan-4 c = search needs
 slice-write-plan-3 : tie.Need-slice-write-plan-3
 slice-write-plan-3 c = simp length-set (omega (arith, c .before .before .before .before .before .before .before .pre .0 .0))
 
-add-widened : tie.Need-add-widened
-add-widened c = search needs
-
-shared-slice-read-widened-2 : tie.Need-shared-slice-read-widened-2
-shared-slice-read-widened-2 c = search needs
+port-requires : tie.Need-port-requires
+port-requires c κs = search needs
 
 widened-requires-2 : tie.Need-widened-requires-2
 widened-requires-2 c κs = search needs
@@ -78,11 +66,8 @@ mul-plan-5 c = search needs
 slice-write-plan-4 : tie.Need-slice-write-plan-4
 slice-write-plan-4 c = simp length-set (omega (arith, c .before .before .before .before .before .before .before .before .before .pre .0 .0))
 
-add-widened-2 : tie.Need-add-widened-2
-add-widened-2 c = search needs
-
-shared-slice-read-widened-3 : tie.Need-shared-slice-read-widened-3
-shared-slice-read-widened-3 c = search needs
+port-requires-2 : tie.Need-port-requires-2
+port-requires-2 c κs = search needs
 
 widened-requires-3 : tie.Need-widened-requires-3
 widened-requires-3 c κs = search needs
@@ -96,11 +81,8 @@ mul-plan-6 c = search needs
 slice-write-plan-5 : tie.Need-slice-write-plan-5
 slice-write-plan-5 c = simp length-set (omega (arith, c .before .before .before .before .before .before .before .before .before .before .before .pre .0 .0))
 
-add-widened-3 : tie.Need-add-widened-3
-add-widened-3 c = search needs
-
-shared-slice-read-widened-4 : tie.Need-shared-slice-read-widened-4
-shared-slice-read-widened-4 c = search needs
+port-requires-3 : tie.Need-port-requires-3
+port-requires-3 c κs = search needs
 
 widened-requires-4 : tie.Need-widened-requires-4
 widened-requires-4 c κs = search needs
@@ -118,18 +100,23 @@ same-length : tie.Need-same-length
 same-length c = simp length-set
 
 returns : tie.Need-returns
+unfolding portOf
 returns c =
-    let p = c .before .before .before .before .before .before .before .before .before .before .before .before .before .args in
-    let t = p .table .now in
-    let k = p .e / 3 in
-    rw (c .before .before .before .before .before .before .before .before .before .widened .ensures, c .before .before .before .before .before .before .before .before .narrow .ensures, c .before .before .before .before .before .before .before .narrow2 .ensures, c .before .before .before .before .before .before .narrow3 .ensures, c .before .before .before .before .widened2 .ensures, c .before .before .widened3 .ensures, c .widened4 .ensures, row-kind t k, row-at t k 1 (lit< tt), row-at t k 2 (lit< tt), row-at t k 3 (lit< tt))
+    rw (
+      c .before .before .before .before .before .before .before .before .before .widened .ensures ∙ c .before .before .before .before .before .before .before .before .before .before .kind .ensures,
+      c .before .before .before .before .before .before .before .before .narrow .ensures,
+      c .before .before .before .before .before .before .before .narrow2 .ensures,
+      c .before .before .before .before .before .before .narrow3 .ensures,
+      c .before .before .before .before .widened2 .ensures ∙ c .before .before .before .before .before .port .ensures,
+      c .before .before .widened3 .ensures ∙ c .before .before .before .port2 .ensures,
+      c .widened4 .ensures ∙ c .before .port3 .ensures,
+    )
 
 pub put-place-spec : {M : Type 1} → statement M
 put-place-spec =
     tie.close
     (tie.spec
-    mul-f
-    shared-slice-read-widened
+    kind-requires
     widened-requires
     mul-plan
     narrow-requires
@@ -144,20 +131,17 @@ put-place-spec =
     add-plan-3
     mul-plan-4
     slice-write-plan-3
-    add-widened
-    shared-slice-read-widened-2
+    port-requires
     widened-requires-2
     add-plan-4
     mul-plan-5
     slice-write-plan-4
-    add-widened-2
-    shared-slice-read-widened-3
+    port-requires-2
     widened-requires-3
     add-plan-5
     mul-plan-6
     slice-write-plan-5
-    add-widened-3
-    shared-slice-read-widened-4
+    port-requires-3
     widened-requires-4
     add-plan-6
     mul-plan-7

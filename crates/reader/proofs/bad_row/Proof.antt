@@ -1,13 +1,9 @@
 use mathlib.Core.Path.{ap, _∙_}
 use mathlib.Core.Bool.{not}
-use Rattle.component.specs.Row.{rowOk}
 use borrow.Author.Needs.{needs}
+use Rattle.component.specs.Row.{rowOk}
 use Rattle.reader.proofs.bad_row.Statement.{statement}
 use Rattle.reader.proofs.bad_row.Tie as tie
-use Rattle.reader.proofs.bad_row.Reads as reads
-use Rattle.reader.proofs.bad_row.Lts as lts
-use Rattle.component.proofs.row_ok.Reads as row-ok-reads
-use Rattle.record.proofs.row_at.Reads as row-at-reads
 
 row-at-requires : tie.Need-row-at-requires
 row-at-requires c κs = search needs

@@ -8,9 +8,6 @@ use Rattle.digits.proofs.Least.{least-at, least-none}
 use Rattle.reader.specs.File.{badPad}
 use Rattle.reader.proofs.first_bad_pad.Statement.{statement}
 use Rattle.reader.proofs.first_bad_pad.Tie as tie
-use Rattle.reader.proofs.first_bad_pad.Reads as reads
-use Rattle.reader.proofs.first_bad_pad.Lts as lts
-use Rattle.record.proofs.padded.Reads as padded-reads
 
 abbrev Inv-loop : tie.InvT-loop
 Inv-loop file n k₀ k = (k ≤ n) × ((j : ℕ) → j < k → badPad file j ≡ false)

@@ -1,15 +1,11 @@
 use mathlib.Core.Path.{sym, ap, _∙_}
+use native.Mathlib.Omega.{arith}
+use borrow.Author.Needs.{needs}
 use Rattle.digits.specs.Least.{least}
 use Rattle.digits.proofs.Least.{least-le, least-or}
 use Rattle.reader.specs.File.{badPad, badRow, firstBadRow, firstBadRecord}
-use native.Mathlib.Omega.{arith}
-use borrow.Author.Needs.{needs}
 use Rattle.reader.proofs.first_bad_record.Statement.{statement}
 use Rattle.reader.proofs.first_bad_record.Tie as tie
-use Rattle.reader.proofs.first_bad_record.Reads as reads
-use Rattle.reader.proofs.first_bad_record.Lts as lts
-use Rattle.reader.proofs.first_bad_pad.Reads as first-bad-pad-reads
-use Rattle.reader.proofs.first_bad_row.Reads as first-bad-row-reads
 
 first-bad-pad-requires : tie.Need-first-bad-pad-requires
 first-bad-pad-requires c κs = search needs

@@ -1,16 +1,13 @@
 use mathlib.Core.Path.{_≡_, sym, _∙_}
 use mathlib.Core.Bool.{false}
 use Prim.Native.Nat.{ℕ, _-_, _≤_, _<_}
-use Rattle.digits.proofs.Least.{least-at, least-none}
 use borrow.Author.Count.{below-more}
-use Rattle.reader.specs.File.{badRow, firstBadRow}
 use borrow.Author.Needs.{needs}
 use native.Mathlib.Omega.{arith}
+use Rattle.digits.proofs.Least.{least-at, least-none}
+use Rattle.reader.specs.File.{badRow, firstBadRow}
 use Rattle.reader.proofs.first_bad_row.Statement.{statement}
 use Rattle.reader.proofs.first_bad_row.Tie as tie
-use Rattle.reader.proofs.first_bad_row.Reads as reads
-use Rattle.reader.proofs.first_bad_row.Lts as lts
-use Rattle.reader.proofs.bad_row.Reads as bad-row-reads
 
 abbrev Inv-loop : tie.InvT-loop
 Inv-loop table n colours channels k₀ k = (k ≤ n) × ((j : ℕ) → j < k → badRow colours channels table j ≡ false)

@@ -1,13 +1,9 @@
 use mathlib.Core.Path.{ap, _∙_}
+use borrow.Author.Needs.{needs}
 use Rattle.digits.specs.Packed.{fields}
 use Rattle.reader.specs.File.{headerWidths, headerFields}
-use borrow.Author.Needs.{needs}
 use Rattle.reader.proofs.header.Statement.{statement}
 use Rattle.reader.proofs.header.Tie as tie
-use Rattle.reader.proofs.header.Reads as reads
-use Rattle.reader.proofs.header.Lts as lts
-use Rattle.digits.proofs.word.Reads as word-reads
-use Rattle.reader.proofs.cut_header.Reads as cut-header-reads
 
 word-requires : tie.Need-word-requires
 word-requires c κs = search needs

@@ -1,16 +1,10 @@
 use mathlib.Core.Path.{refl}
-use Rattle.reader.proofs.Facts.{headed, read-refused, is-short, is-rejected, header-few, read-done, rows-front, rows-front-long}
-use Rattle.reader.proofs.Tests.{colours-lt}
 use native.Mathlib.Omega.{arith}
 use borrow.Author.Needs.{needs}
+use Rattle.reader.proofs.Facts.{headed, read-refused, is-short, is-rejected, header-few, read-done, rows-front, rows-front-long}
+use Rattle.reader.proofs.Tests.{colours-lt}
 use Rattle.reader.proofs.read.Statement.{statement}
 use Rattle.reader.proofs.read.Tie as tie
-use Rattle.reader.proofs.read.Reads as reads
-use Rattle.reader.proofs.read.Lts as lts
-use Rattle.reader.proofs.header.Reads as header-reads
-use Rattle.reader.proofs.read_header.Reads as read-header-reads
-use Rattle.reader.proofs.read_table.Reads as read-table-reads
-use Rattle.record.proofs.put_rows.Reads as put-rows-reads
 
 -- src/lib.rt:190:9
 returns : tie.Need-returns

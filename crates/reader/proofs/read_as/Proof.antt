@@ -1,8 +1,6 @@
 use borrow.Author.Needs.{needs}
 use Rattle.reader.proofs.read_as.Statement.{statement}
 use Rattle.reader.proofs.read_as.Tie as tie
-use Rattle.reader.proofs.read_as.Reads as reads
-use Rattle.reader.proofs.read_as.Lts as lts
 
 enum-told : tie.Need-enum-told
 enum-told c = search needs

@@ -1,11 +1,8 @@
-use Rattle.reader.proofs.Tests.{is-edition, is-range, is-length, is-sum, is-right, range-le}
 use native.Mathlib.Omega.{arith}
 use borrow.Author.Needs.{needs}
+use Rattle.reader.proofs.Tests.{is-edition, is-range, is-length, is-sum, is-right, range-le}
 use Rattle.reader.proofs.read_header.Statement.{statement}
 use Rattle.reader.proofs.read_header.Tie as tie
-use Rattle.reader.proofs.read_header.Reads as reads
-use Rattle.reader.proofs.read_header.Lts as lts
-use Rattle.digits.proofs.byte_sum.Reads as byte-sum-reads
 
 -- src/lib.rt:91:13
 array-read-c : tie.Need-array-read-c

@@ -1,15 +1,9 @@
 use mathlib.Core.Path.{refl}
-use Rattle.reader.proofs.Facts.{table-field, table-wired, table-kinds, rows-long, rows-room}
 use native.Mathlib.Omega.{arith}
 use borrow.Author.Needs.{needs}
+use Rattle.reader.proofs.Facts.{table-field, table-wired, table-kinds, rows-long, rows-room}
 use Rattle.reader.proofs.read_table.Statement.{statement}
 use Rattle.reader.proofs.read_table.Tie as tie
-use Rattle.reader.proofs.read_table.Reads as reads
-use Rattle.reader.proofs.read_table.Lts as lts
-use Rattle.reader.proofs.first_bad_record.Reads as first-bad-record-reads
-use Rattle.reader.proofs.read_as.Reads as read-as-reads
-use Rattle.reader.proofs.wired_verdict.Reads as wired-verdict-reads
-use Rattle.wiring.proofs.wire.Reads as wire-reads
 
 -- src/lib.rt:175:48
 cast-first-bad-record : tie.Need-cast-first-bad-record

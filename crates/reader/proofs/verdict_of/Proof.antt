@@ -1,8 +1,6 @@
 use borrow.Author.Needs.{needs}
 use Rattle.reader.proofs.verdict_of.Statement.{statement}
 use Rattle.reader.proofs.verdict_of.Tie as tie
-use Rattle.reader.proofs.verdict_of.Reads as reads
-use Rattle.reader.proofs.verdict_of.Lts as lts
 
 -- src/lib.rt:24:25
 enum-known-r : tie.Need-enum-known-r

@@ -1,8 +1,6 @@
 use borrow.Author.Needs.{needs}
 use Rattle.reader.proofs.wired_verdict.Statement.{statement}
 use Rattle.reader.proofs.wired_verdict.Tie as tie
-use Rattle.reader.proofs.wired_verdict.Reads as reads
-use Rattle.reader.proofs.wired_verdict.Lts as lts
 
 enum-told : tie.Need-enum-told
 enum-told c = search needs

@@ -2,12 +2,10 @@ use mathlib.Core.Path.{ap}
 use mathlib.Core.Bool.{not}
 use Prim.Native.Nat.{ℕ, _+_}
 use lib.Dec.{eqb}
-use Rattle.record.proofs.Record.{record-pad}
 use borrow.Author.Needs.{needs}
+use Rattle.record.proofs.Record.{record-pad}
 use Rattle.record.proofs.padded.Statement.{statement}
 use Rattle.record.proofs.padded.Tie as tie
-use Rattle.record.proofs.padded.Reads as reads
-use Rattle.record.proofs.padded.Lts as lts
 
 add-result : tie.Need-add-result
 add-result c = search needs

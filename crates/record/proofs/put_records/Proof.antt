@@ -2,22 +2,18 @@ use borrow.Author.Needs.{needs}
 use native.Mathlib.Omega.{arith}
 use mathlib.Core.Path.{_≡_, refl, ap, _∙_}
 use mathlib.Core.List.{List, _++_}
-use Prim.Native.Nat.{ℕ, _+_, _*_, _-_, _≤_}
+use Prim.Native.Nat.{ℕ, _-_, _≤_}
 use lib.ListN.{length, take, drop}
 use lib.Seq.{paste}
 use Rattle.record.specs.Record.{recordBytes}
 use Rattle.record.specs.Table.{records}
+use Rattle.record.specs.Sizes.{headerSize, recordSize, fileSize}
 use Rattle.record.proofs.Table.{records-none, records-more}
 use Rattle.record.proofs.put_records.Statement.{statement}
 use Rattle.record.proofs.put_records.Tie as tie
-use Rattle.record.proofs.put_records.Reads as reads
-use Rattle.record.proofs.put_records.Lts as lts
-use Rattle.digits.proofs.copy.Reads as copy-reads
-use Rattle.record.proofs.record_bytes.Reads as record-bytes-reads
-use Rattle.record.proofs.row_at.Reads as row-at-reads
 
 abbrev Inv-loop : tie.InvT-loop
-Inv-loop table n out₀ k₀ out k = (k ≤ n) × (out ≡ take 4 out₀ ++ records table k ++ drop (4 + 13 * k) out₀) × (length out ≡ length out₀)
+Inv-loop table n out₀ k₀ out k = (k ≤ n) × (out ≡ take headerSize out₀ ++ records table k ++ drop (fileSize k) out₀) × (length out ≡ length out₀)
 
 abbrev μ-loop : tie.MeasureT-loop
 μ-loop table n out₀ k₀ out k = n - k
@@ -56,7 +52,7 @@ loop-again c =
     let b = c .before .before .before .before .before .record-bytes in (
       omega arith,
       c .before .before .copy .ensures
-          ∙ ap (λ (o : List ℕ). paste o (4 + 13 * g .k) (b .result) 13) (g .inv .1)
+          ∙ ap (λ (o : List ℕ). paste o (fileSize (g .k)) (b .result) recordSize) (g .inv .1)
           ∙ records-more (a .table .now) (a .out .now) (g .k) _ (omega arith) (b .ensures ∙ ap recordBytes (c .before .before .before .before .before .before .row-at .ensures)),
       c .before .before .copy .kept .1 .1 .0 ∙ g .inv .2,
     )
@@ -69,7 +65,7 @@ returns c =
     let a = c .before .before .before .before .args in
     let g = c .before .loop in
     let e : g .k ≡ a .n = omega arith in
-    g .inv .1 ∙ ap (λ (k : ℕ). take 4 (a .out .now) ++ records (a .table .now) k ++ drop (4 + 13 * k) (a .out .now)) e
+    g .inv .1 ∙ ap (λ (k : ℕ). take headerSize (a .out .now) ++ records (a .table .now) k ++ drop (fileSize k) (a .out .now)) e
 
 pub put-records-spec : {M : Type 1} → statement M
 put-records-spec =

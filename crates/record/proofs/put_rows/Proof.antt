@@ -2,20 +2,17 @@ use borrow.Author.Needs.{needs}
 use native.Mathlib.Omega.{arith}
 use mathlib.Core.Path.{_≡_, refl, ap, _∙_}
 use mathlib.Core.List.{List, _++_}
-use Prim.Native.Nat.{ℕ, _+_, _*_, _-_, _≤_}
+use Prim.Native.Nat.{ℕ, _*_, _-_, _≤_}
 use lib.ListN.{length, drop}
 use lib.Seq.{paste}
 use Rattle.record.specs.Table.{openTable}
+use Rattle.record.specs.Sizes.{rowSize}
 use Rattle.record.proofs.Table.{rows-none, rows-more}
 use Rattle.record.proofs.put_rows.Statement.{statement}
 use Rattle.record.proofs.put_rows.Tie as tie
-use Rattle.record.proofs.put_rows.Reads as reads
-use Rattle.record.proofs.put_rows.Lts as lts
-use Rattle.digits.proofs.copy.Reads as copy-reads
-use Rattle.record.proofs.record_row.Reads as record-row-reads
 
 abbrev Inv-loop : tie.InvT-loop
-Inv-loop file n table₀ k₀ table k = (k ≤ n) × (table ≡ openTable file k ++ drop (24 * k) table₀) × (length table ≡ length table₀)
+Inv-loop file n table₀ k₀ table k = (k ≤ n) × (table ≡ openTable file k ++ drop (rowSize * k) table₀) × (length table ≡ length table₀)
 
 abbrev μ-loop : tie.MeasureT-loop
 μ-loop file n table₀ k₀ table k = n - k
@@ -54,7 +51,7 @@ loop-again c =
     let row = c .before .before .before .before .before .record-row in (
       omega arith,
       c .before .before .copy .ensures
-          ∙ ap (λ (t : List ℕ). paste t (24 * g .k) (row .result) 24) (g .inv .1)
+          ∙ ap (λ (t : List ℕ). paste t (rowSize * g .k) (row .result) rowSize) (g .inv .1)
           ∙ rows-more (a .file .now) (a .table .now) (g .k) _ (row .ensures),
       c .before .before .copy .kept .1 .1 .0 ∙ g .inv .2,
     )
@@ -67,7 +64,7 @@ returns c =
     let a = c .before .before .before .before .args in
     let g = c .before .loop in
     let e : g .k ≡ a .n = omega arith in
-    g .inv .1 ∙ ap (λ (k : ℕ). openTable (a .file .now) k ++ drop (24 * k) (a .table .now)) e
+    g .inv .1 ∙ ap (λ (k : ℕ). openTable (a .file .now) k ++ drop (rowSize * k) (a .table .now)) e
 
 pub put-rows-spec : {M : Type 1} → statement M
 put-rows-spec =

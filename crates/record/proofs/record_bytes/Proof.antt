@@ -1,15 +1,10 @@
 use mathlib.Core.Path.{_∙_}
+use borrow.Author.Needs.{needs}
 use Rattle.digits.proofs.Packed.{joined-lt}
 use Rattle.record.specs.Record.{upperWidths, lowerWidths}
 use Rattle.record.proofs.Record.{upper-word-fits, record-join}
-use borrow.Author.Needs.{needs}
 use Rattle.record.proofs.record_bytes.Statement.{statement}
 use Rattle.record.proofs.record_bytes.Tie as tie
-use Rattle.record.proofs.record_bytes.Reads as reads
-use Rattle.record.proofs.record_bytes.Lts as lts
-use Rattle.record.proofs.cut_bytes.Reads as cut-bytes-reads
-use Rattle.record.proofs.lower_number.Reads as lower-number-reads
-use Rattle.record.proofs.upper_number.Reads as upper-number-reads
 
 upper-number-requires : tie.Need-upper-number-requires
 upper-number-requires c κs = search needs

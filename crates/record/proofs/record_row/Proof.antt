@@ -1,12 +1,8 @@
 use mathlib.Core.Path.{_∙_}
-use Rattle.record.proofs.Record.{record-cut}
 use borrow.Author.Needs.{needs}
+use Rattle.record.proofs.Record.{record-cut}
 use Rattle.record.proofs.record_row.Statement.{statement}
 use Rattle.record.proofs.record_row.Tie as tie
-use Rattle.record.proofs.record_row.Reads as reads
-use Rattle.record.proofs.record_row.Lts as lts
-use Rattle.digits.proofs.word.Reads as word-reads
-use Rattle.record.proofs.cut_row.Reads as cut-row-reads
 
 word-requires : tie.Need-word-requires
 word-requires c κs = search needs

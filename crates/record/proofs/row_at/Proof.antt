@@ -5,11 +5,9 @@ use lib.Seq.{take-take}
 use native.Mathlib.Omega.{arith}
 use mathlib.Core.Path.{ap, _∙_}
 use borrow.Author.Needs.{needs}
+use Rattle.record.specs.Sizes.{rowSize}
 use Rattle.record.proofs.row_at.Statement.{statement}
 use Rattle.record.proofs.row_at.Tie as tie
-use Rattle.record.proofs.row_at.Reads as reads
-use Rattle.record.proofs.row_at.Lts as lts
-use Rattle.digits.proofs.copy.Reads as copy-reads
 
 mul-at : tie.Need-mul-at
 mul-at c = search needs
@@ -33,8 +31,8 @@ returns : tie.Need-returns
 returns c =
     let a = c .before .before .before .before .before .args in
     c .before .copy .ensures
-    ∙ ap (λ (l : List ℕ). l ++ []) (take-take 24 (length (a .table .now) - 24 * a .k) (drop (24 * a .k) (a .table .now)) (omega arith))
-    ∙ append-nil (take 24 (drop (24 * a .k) (a .table .now)))
+    ∙ ap (λ (l : List ℕ). l ++ []) (take-take rowSize (length (a .table .now) - rowSize * a .k) (drop (rowSize * a .k) (a .table .now)) (omega arith))
+    ∙ append-nil (take rowSize (drop (rowSize * a .k) (a .table .now)))
 
 pub row-at-spec : {M : Type 1} → statement M
 row-at-spec =

@@ -5,8 +5,6 @@ use borrow.Author.Needs.{needs}
 use Rattle.refusals.proofs.Room.{room-given}
 use Rattle.refusals.proofs.room_for.Statement.{statement}
 use Rattle.refusals.proofs.room_for.Tie as tie
-use Rattle.refusals.proofs.room_for.Reads as reads
-use Rattle.refusals.proofs.room_for.Lts as lts
 
 returns : tie.Need-returns
 returns c = let a = c .before .args in sym (room-given (a .v) (a .space) (a .need) (omega arith))

@@ -2,8 +2,6 @@ use native.Mathlib.Omega.{arith}
 use borrow.Author.Needs.{needs}
 use Rattle.rules.proofs.byte_of_offer.Statement.{statement}
 use Rattle.rules.proofs.byte_of_offer.Tie as tie
-use Rattle.rules.proofs.byte_of_offer.Reads as reads
-use Rattle.rules.proofs.byte_of_offer.Lts as lts
 
 enum-known-o : tie.Need-enum-known-o
 enum-known-o c = search needs

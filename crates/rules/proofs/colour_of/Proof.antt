@@ -2,8 +2,6 @@ use native.Mathlib.Omega.{arith}
 use borrow.Author.Needs.{needs}
 use Rattle.rules.proofs.colour_of.Statement.{statement}
 use Rattle.rules.proofs.colour_of.Tie as tie
-use Rattle.rules.proofs.colour_of.Reads as reads
-use Rattle.rules.proofs.colour_of.Lts as lts
 
 enum-known-o : tie.Need-enum-known-o
 enum-known-o c = search needs

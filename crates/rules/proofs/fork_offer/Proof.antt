@@ -1,13 +1,9 @@
-use Rattle.rules.proofs.Ports.{fork-rest}
-use Rattle.rules.specs.Rules.{rule}
-use Rattle.component.specs.Kind.{portOf}
 use borrow.Author.Needs.{needs}
+use Rattle.component.specs.Kind.{portOf}
+use Rattle.rules.specs.Rules.{rule}
+use Rattle.rules.proofs.Ports.{fork-rest}
 use Rattle.rules.proofs.fork_offer.Statement.{statement}
 use Rattle.rules.proofs.fork_offer.Tie as tie
-use Rattle.rules.proofs.fork_offer.Reads as reads
-use Rattle.rules.proofs.fork_offer.Lts as lts
-use Rattle.rules.proofs.gate.Reads as gate-reads
-use Rattle.rules.proofs.map_from.Reads as map-from-reads
 
 map-from-requires : tie.Need-map-from-requires
 map-from-requires c κs = search needs

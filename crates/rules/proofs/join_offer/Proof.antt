@@ -1,13 +1,8 @@
-use Rattle.rules.specs.Rules.{rule}
-use Rattle.component.specs.Kind.{portOf}
 use borrow.Author.Needs.{needs}
+use Rattle.component.specs.Kind.{portOf}
+use Rattle.rules.specs.Rules.{rule}
 use Rattle.rules.proofs.join_offer.Statement.{statement}
 use Rattle.rules.proofs.join_offer.Tie as tie
-use Rattle.rules.proofs.join_offer.Reads as reads
-use Rattle.rules.proofs.join_offer.Lts as lts
-use Rattle.rules.proofs.gate.Reads as gate-reads
-use Rattle.rules.proofs.is_offered.Reads as is-offered-reads
-use Rattle.rules.proofs.map_from.Reads as map-from-reads
 
 is-offered-requires : tie.Need-is-offered-requires
 is-offered-requires c κs = search needs

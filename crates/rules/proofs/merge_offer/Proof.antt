@@ -1,11 +1,8 @@
-use Rattle.rules.specs.Rules.{rule}
-use Rattle.component.specs.Kind.{portOf}
 use borrow.Author.Needs.{needs}
+use Rattle.component.specs.Kind.{portOf}
+use Rattle.rules.specs.Rules.{rule}
 use Rattle.rules.proofs.merge_offer.Statement.{statement}
 use Rattle.rules.proofs.merge_offer.Tie as tie
-use Rattle.rules.proofs.merge_offer.Reads as reads
-use Rattle.rules.proofs.merge_offer.Lts as lts
-use Rattle.rules.proofs.picks_b.Reads as picks-b-reads
 
 picks-b-requires : tie.Need-picks-b-requires
 picks-b-requires c κs = search needs

@@ -1,16 +1,11 @@
+use mathlib.Core.Path.{_∙_}
+use borrow.Author.Needs.{needs}
+use Rattle.component.specs.Kind.{portOf}
+use Rattle.rules.specs.Rules.{rule}
 use Rattle.rules.proofs.Ports.{merge-rest}
 use Rattle.rules.proofs.Values.{when-not}
-use mathlib.Core.Path.{_∙_}
-use Rattle.rules.specs.Rules.{rule}
-use Rattle.component.specs.Kind.{portOf}
-use borrow.Author.Needs.{needs}
 use Rattle.rules.proofs.merge_take.Statement.{statement}
 use Rattle.rules.proofs.merge_take.Tie as tie
-use Rattle.rules.proofs.merge_take.Reads as reads
-use Rattle.rules.proofs.merge_take.Lts as lts
-use Rattle.rules.proofs.both.Reads as both-reads
-use Rattle.rules.proofs.is_offered.Reads as is-offered-reads
-use Rattle.rules.proofs.picks_b.Reads as picks-b-reads
 
 picks-b-requires : tie.Need-picks-b-requires
 picks-b-requires c κs = search needs

@@ -1,9 +1,7 @@
-use Rattle.rules.proofs.Values.{bit-nonzero}
 use borrow.Author.Needs.{needs}
+use Rattle.rules.proofs.Values.{bit-nonzero}
 use Rattle.rules.proofs.picks_b.Statement.{statement}
 use Rattle.rules.proofs.picks_b.Tie as tie
-use Rattle.rules.proofs.picks_b.Reads as reads
-use Rattle.rules.proofs.picks_b.Lts as lts
 
 enum-told : tie.Need-enum-told
 enum-told c = search needs

@@ -1,9 +1,7 @@
-use Rattle.rules.proofs.Values.{when-open}
 use borrow.Author.Needs.{needs}
+use Rattle.rules.proofs.Values.{when-open}
 use Rattle.rules.proofs.queue_offer.Statement.{statement}
 use Rattle.rules.proofs.queue_offer.Tie as tie
-use Rattle.rules.proofs.queue_offer.Reads as reads
-use Rattle.rules.proofs.queue_offer.Lts as lts
 
 shared-slice-read-n : tie.Need-shared-slice-read-n
 shared-slice-read-n c = search needs

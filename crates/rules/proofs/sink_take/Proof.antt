@@ -1,12 +1,9 @@
-use Rattle.rules.proofs.Values.{offered-or}
 use mathlib.Core.Path.{_∙_}
 use lib.ListN.{getD}
 use borrow.Author.Needs.{needs}
+use Rattle.rules.proofs.Values.{offered-or}
 use Rattle.rules.proofs.sink_take.Statement.{statement}
 use Rattle.rules.proofs.sink_take.Tie as tie
-use Rattle.rules.proofs.sink_take.Reads as reads
-use Rattle.rules.proofs.sink_take.Lts as lts
-use Rattle.rules.proofs.HeldSink.take.Reads as take-reads
 
 shared-slice-read-n : tie.Need-shared-slice-read-n
 shared-slice-read-n c = search needs

@@ -1,10 +1,6 @@
 use borrow.Author.Needs.{needs}
 use Rattle.rules.proofs.source_offer.Statement.{statement}
 use Rattle.rules.proofs.source_offer.Tie as tie
-use Rattle.rules.proofs.source_offer.Reads as reads
-use Rattle.rules.proofs.source_offer.Lts as lts
-use Rattle.rules.proofs.HeldSource.offer.Reads as offer-reads
-use Rattle.rules.proofs.offer_of_byte.Reads as offer-of-byte-reads
 
 shared-slice-read-n : tie.Need-shared-slice-read-n
 shared-slice-read-n c = search needs

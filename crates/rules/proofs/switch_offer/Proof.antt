@@ -1,15 +1,11 @@
+use mathlib.Core.Path.{_∙_}
+use borrow.Author.Needs.{needs}
+use Rattle.component.specs.Kind.{portOf}
+use Rattle.rules.specs.Rules.{rule}
 use Rattle.rules.proofs.Ports.{switch-rest}
 use Rattle.rules.proofs.Values.{when-not}
-use mathlib.Core.Path.{_∙_}
-use Rattle.rules.specs.Rules.{rule}
-use Rattle.component.specs.Kind.{portOf}
-use borrow.Author.Needs.{needs}
 use Rattle.rules.proofs.switch_offer.Statement.{statement}
 use Rattle.rules.proofs.switch_offer.Tie as tie
-use Rattle.rules.proofs.switch_offer.Reads as reads
-use Rattle.rules.proofs.switch_offer.Lts as lts
-use Rattle.rules.proofs.gate.Reads as gate-reads
-use Rattle.rules.proofs.to_b.Reads as to-b-reads
 
 to-b-requires : tie.Need-to-b-requires
 to-b-requires c κs = search needs

@@ -7,8 +7,6 @@ use Rattle.digits.specs.UpTo.{upTo}
 use Rattle.digits.proofs.UpTo.{filled-none, filled-more, length-filled}
 use Rattle.signals.proofs.clear.Statement.{statement}
 use Rattle.signals.proofs.clear.Tie as tie
-use Rattle.signals.proofs.clear.Reads as reads
-use Rattle.signals.proofs.clear.Lts as lts
 
 abbrev Inv-loop : tie.InvT-loop
 Inv-loop signals₀ n s₀ signals s = (s ≤ n) × (signals ≡ upTo s (λ i. 0) ++ drop s signals₀)

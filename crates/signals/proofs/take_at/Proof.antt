@@ -1,11 +1,9 @@
 use Prim.Native.Nat.{_+_, _*_}
 use lib.ListN.{getD}
-use Rattle.rules.proofs.Values.{bit-nonzero}
 use borrow.Author.Needs.{needs}
+use Rattle.rules.proofs.Values.{bit-nonzero}
 use Rattle.signals.proofs.take_at.Statement.{statement}
 use Rattle.signals.proofs.take_at.Tie as tie
-use Rattle.signals.proofs.take_at.Reads as reads
-use Rattle.signals.proofs.take_at.Lts as lts
 
 mul-result : tie.Need-mul-result
 mul-result c = search needs

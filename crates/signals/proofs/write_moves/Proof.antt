@@ -1,19 +1,13 @@
-use mathlib.Core.Path.{_≡_, _∙_}
+use mathlib.Core.Path.{_≡_}
 use mathlib.Core.List.{_++_}
-use Prim.Native.Nat.{_+_, _-_, _*_, _≤_}
+use Prim.Native.Nat.{_-_, _≤_}
 use native.Mathlib.Omega.{arith}
-use borrow.Author.Needs.{needs}
-use lib.ListN.{getD, drop}
+use lib.ListN.{drop}
 use Rattle.digits.specs.UpTo.{upTo}
 use Rattle.digits.proofs.UpTo.{filled-none, filled-more, length-filled}
 use Rattle.signals.specs.Channels.{movedIn}
-use Rattle.signals.proofs.Channels.{when-flag}
 use Rattle.signals.proofs.write_moves.Statement.{statement}
 use Rattle.signals.proofs.write_moves.Tie as tie
-use Rattle.signals.proofs.write_moves.Reads as reads
-use Rattle.signals.proofs.write_moves.Lts as lts
-use Rattle.signals.proofs.channel_at.Reads as channel-at-reads
-use Rattle.signals.proofs.moved_on.Reads as moved-on-reads
 
 abbrev Inv-loop : tie.InvT-loop
 Inv-loop signals m moves₀ x₀ moves x = (x ≤ m) × (moves ≡ upTo x (movedIn signals) ++ drop x moves₀)
@@ -24,32 +18,26 @@ abbrev μ-loop : tie.MeasureT-loop
 loop-holds : tie.Need-loop-holds Inv-loop μ-loop
 loop-holds c = (omega arith, filled-none (movedIn (c .before .before .args .signals .now)) (c .before .before .args .moves .now))
 
-channel-at-requires : tie.Need-channel-at-requires Inv-loop μ-loop
-channel-at-requires c κs = let p = c .before .before .before .before .pre in (omega (arith, p .0, c .loop-test .taken), omega (arith, p .1, c .loop-test .taken))
-
 moved-on-requires : tie.Need-moved-on-requires Inv-loop μ-loop
-moved-on-requires c κs = search needs
+moved-on-requires c κs = c .before .before .before .before .pre .0 (c .before .loop .x) (c .loop-test .taken)
 
 slice-write-moves : tie.Need-slice-write-moves Inv-loop μ-loop
-slice-write-moves c = let l = c .before .before .before .loop in let s = c .before .before .before .before .before .before in rw (l .inv .1, length-filled (movedIn (s .args .signals .now)) (s .args .moves .now) (l .x) (omega (arith, l .inv .0, s .pre .2))) (omega (arith, s .pre .2, c .before .before .loop-test .taken))
+slice-write-moves c = let l = c .before .before .loop in let s = c .before .before .before .before .before in rw (l .inv .1, length-filled (movedIn (s .args .signals .now)) (s .args .moves .now) (l .x) (omega (arith, l .inv .0, s .pre .1))) (omega (arith, s .pre .1, c .before .loop-test .taken))
 
 add-x : tie.Need-add-x Inv-loop μ-loop
-add-x c = omega (arith, c .before .before .loop-test .taken)
+add-x c = omega (arith, c .before .loop-test .taken)
 
 loop-less : tie.Need-loop-less Inv-loop μ-loop
-loop-less c = omega (arith, c .before .before .loop-test .taken)
+loop-less c = omega (arith, c .before .loop-test .taken)
 
 loop-again : tie.Need-loop-again Inv-loop μ-loop
 loop-again c =
-    let l = c .before .before .before .loop in
-    let s = c .before .before .before .before .before .before in
-    let e = c .before .channel-at .ensures in
-    let b : getD (s .args .signals .now) (2 * l .x) 0 ≤ 255 = omega (arith, c .before .before .before .before .before .shared-slice-known .given (2 * l .x)) in
-    let r : c .moved-on .result ≡ movedIn (s .args .signals .now) (l .x) = c .moved-on .ensures (rw (e .0) b) ∙ rw (e .1, e .0) (when-flag (getD (s .args .signals .now) (2 * l .x + 1) 0) (getD (s .args .signals .now) (2 * l .x) 0)) in
-    (omega (arith, c .before .before .loop-test .taken), rw (l .inv .1, r) (filled-more (movedIn (s .args .signals .now)) (s .args .moves .now) 0 (l .x) (omega (arith, s .pre .2, c .before .before .loop-test .taken))))
+    let l = c .before .before .loop in
+    let s = c .before .before .before .before .before in
+    (omega (arith, c .before .loop-test .taken), rw (l .inv .1, c .moved-on .ensures) (filled-more (movedIn (s .args .signals .now)) (s .args .moves .now) 0 (l .x) (omega (arith, s .pre .1, c .before .loop-test .taken))))
 
 same-length : tie.Need-same-length Inv-loop μ-loop
-same-length c = let l = c .before .loop in let s = c .before .before .before .before in rw (l .inv .1) (length-filled (movedIn (s .args .signals .now)) (s .args .moves .now) (l .x) (omega (arith, l .inv .0, s .pre .2)))
+same-length c = let l = c .before .loop in let s = c .before .before .before .before in rw (l .inv .1) (length-filled (movedIn (s .args .signals .now)) (s .args .moves .now) (l .x) (omega (arith, l .inv .0, s .pre .1)))
 
 returns : tie.Need-returns Inv-loop μ-loop
 returns c = let l = c .before .loop in let e : l .x ≡ c .before .before .before .before .args .m = omega (arith, l .inv .0, c .loop-test .left) in rw e at (l .inv .1)
@@ -61,7 +49,6 @@ write-moves-spec =
     Inv-loop
     μ-loop
     loop-holds
-    channel-at-requires
     moved-on-requires
     slice-write-moves
     add-x

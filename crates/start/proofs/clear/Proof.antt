@@ -3,17 +3,16 @@ use mathlib.Core.List.{_++_}
 use Prim.Native.Nat.{_-_, _≤_}
 use native.Mathlib.Omega.{arith}
 use lib.ListN.{length, drop, replicate, length-set}
+use Rattle.cells.specs.Cells.{cellSize}
 use Rattle.start.proofs.Filled.{clear-turn, all-gone}
 use Rattle.start.proofs.clear.Statement.{statement}
 use Rattle.start.proofs.clear.Tie as tie
-use Rattle.start.proofs.clear.Reads as reads
-use Rattle.start.proofs.clear.Lts as lts
 
 abbrev Inv-loop : tie.InvT-loop
-Inv-loop cell₀ j₀ cell j = (j ≤ 64) × (length cell ≡ 64) × (cell ≡ replicate j 0 ++ drop j cell₀)
+Inv-loop cell₀ j₀ cell j = (j ≤ cellSize) × (length cell ≡ cellSize) × (cell ≡ replicate j 0 ++ drop j cell₀)
 
 abbrev μ-loop : tie.MeasureT-loop
-μ-loop cell₀ j₀ cell j = 64 - j
+μ-loop cell₀ j₀ cell j = cellSize - j
 
 loop-holds : tie.Need-loop-holds Inv-loop μ-loop
 loop-holds c = (omega arith, c .pre, refl)
@@ -39,7 +38,7 @@ returns : tie.Need-returns Inv-loop μ-loop
 returns c =
     let l = c .before .loop in
     let s = c .before .before .args .cell .now in
-    let e : l .j ≡ 64 = omega arith in
+    let e : l .j ≡ cellSize = omega arith in
     rw (e, all-gone s (c .before .before .pre)) at (l .inv .2)
 
 pub clear-spec : {M : Type 1} → statement M

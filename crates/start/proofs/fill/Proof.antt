@@ -2,14 +2,13 @@ use mathlib.Core.Path.{_≡_, refl, ap, _∙_}
 use Prim.Native.Nat.{ℕ, suc, _+_, _-_, _≤_}
 use native.Mathlib.Omega.{arith}
 use lib.ListN.{length, set, length-set}
+use Rattle.cells.specs.Cells.{cellSize}
 use Rattle.start.proofs.Filled.{filledTo, fill-turn, filled-all}
 use Rattle.start.proofs.fill.Statement.{statement}
 use Rattle.start.proofs.fill.Tie as tie
-use Rattle.start.proofs.fill.Reads as reads
-use Rattle.start.proofs.fill.Lts as lts
 
 abbrev Inv-loop : tie.InvT-loop
-Inv-loop cell₀ n c count j₀ cell j = (1 ≤ j) × (j ≤ n + 1) × (n ≤ 63) × (count ≡ n) × (length cell ≡ 64) × (cell ≡ filledTo n c (j - 1))
+Inv-loop cell₀ n c count j₀ cell j = (1 ≤ j) × (j ≤ n + 1) × (n ≤ 63) × (count ≡ n) × (length cell ≡ cellSize) × (cell ≡ filledTo n c (j - 1))
 
 abbrev μ-loop : tie.MeasureT-loop
 μ-loop cell₀ n c count j₀ cell j = n + 1 - j

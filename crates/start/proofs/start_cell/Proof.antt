@@ -6,10 +6,6 @@ use Rattle.cells.specs.Start.{startCell}
 use Rattle.start.proofs.Filled.{start-rest}
 use Rattle.start.proofs.start_cell.Statement.{statement}
 use Rattle.start.proofs.start_cell.Tie as tie
-use Rattle.start.proofs.start_cell.Reads as reads
-use Rattle.start.proofs.start_cell.Lts as lts
-use Rattle.start.proofs.clear.Reads as clear-reads
-use Rattle.start.proofs.fill.Reads as fill-reads
 
 clear-requires : tie.Need-clear-requires
 clear-requires c κs = search needs

@@ -4,13 +4,11 @@ use native.Mathlib.Omega.{arith}
 use lib.ListN.{length}
 use Rattle.netlist.specs.Netlist.{netlistOf}
 use Rattle.cells.specs.Start.{startAt, started}
+use Rattle.cells.specs.Cells.{cellSize}
 use Rattle.cells.proofs.Cells.{Laid, none-laid, all-laid, lent-long, laid-more}
 use Rattle.start.proofs.Filled.{filling-fits, start-is}
 use Rattle.start.proofs.write_start.Statement.{statement}
 use Rattle.start.proofs.write_start.Tie as tie
-use Rattle.start.proofs.write_start.Reads as reads
-use Rattle.start.proofs.write_start.Lts as lts
-use Rattle.start.proofs.start_cell.Reads as start-cell-reads
 
 abbrev Inv-loop : tie.InvT-loop
 Inv-loop table size state₀ k₀ state k = Laid (startAt (netlistOf size table)) (size .components) state₀ state k
@@ -21,23 +19,14 @@ abbrev μ-loop : tie.MeasureT-loop
 loop-holds : tie.Need-loop-holds Inv-loop μ-loop
 loop-holds c = none-laid _ _ _
 
-mul-f : tie.Need-mul-f Inv-loop μ-loop
-mul-f c = omega arith
+kind-requires : tie.Need-kind-requires Inv-loop μ-loop
+kind-requires c κs = omega arith
 
-shared-slice-read-kind : tie.Need-shared-slice-read-kind Inv-loop μ-loop
-shared-slice-read-kind c = omega arith
+filling-requires : tie.Need-filling-requires Inv-loop μ-loop
+filling-requires c κs = omega arith
 
-add-n : tie.Need-add-n Inv-loop μ-loop
-add-n c = omega arith
-
-shared-slice-read-n : tie.Need-shared-slice-read-n Inv-loop μ-loop
-shared-slice-read-n c = omega arith
-
-add-c : tie.Need-add-c Inv-loop μ-loop
-add-c c = omega arith
-
-shared-slice-read-c : tie.Need-shared-slice-read-c Inv-loop μ-loop
-shared-slice-read-c c = omega arith
+fill-colour-requires : tie.Need-fill-colour-requires Inv-loop μ-loop
+fill-colour-requires c κs = omega arith
 
 mul-g : tie.Need-mul-g Inv-loop μ-loop
 mul-g c = omega arith
@@ -58,9 +47,9 @@ start-cell-requires : tie.Need-start-cell-requires Inv-loop μ-loop
 start-cell-requires c κs =
     let z = c .before .before .before .before .before .before .before .before .before in
     let l = c .before .before .before .before .before .before .loop in
-    let w : 64 * l .k + 64 - 64 * l .k ≡ 64 = omega arith in
+    let w : cellSize * l .k + cellSize - cellSize * l .k ≡ cellSize = omega arith in
     let t = c .before .before .before .before .if1 .taken in
-    rw w (lent-long (l .inv) t (z .pre .states), filling-fits (netlistOf (z .args .size) (z .args .table .now)) (l .k) (z .pre) t)
+    rw w (lent-long (l .inv) t (z .pre .states), filling-fits (netlistOf (z .args .size) (z .args .table .now)) (l .k) (z .pre) t (c .before .before .before .kind .ensures) (c .before .before .filling .ensures) (c .before .fill-colour .ensures))
 
 add-k : tie.Need-add-k Inv-loop μ-loop
 add-k c = omega arith
@@ -72,11 +61,11 @@ loop-again : tie.Need-loop-again Inv-loop μ-loop
 loop-again c =
     let z = c .before .before .before .before .before .before .before .before .before .before .before .before in
     let l = c .before .before .before .before .before .before .before .before .before .loop in
-    let w : 64 * l .k + 64 - 64 * l .k ≡ 64 = omega arith in
+    let w : cellSize * l .k + cellSize - cellSize * l .k ≡ cellSize = omega arith in
     let t = c .before .before .before .before .before .before .before .if1 .taken in
     let new = c .before .before .start-cell .last .1 .1 .1 .0 in
-    let long : length new ≡ 64 = rw w at (c .before .before .start-cell .kept .1 .1 .1 .0) ∙ lent-long (l .inv) t (z .pre .states) in
-    rw w (laid-more (l .inv) t (z .pre .states) new long (start-is (netlistOf (z .args .size) (z .args .table .now)) (l .k) (z .pre) t new (c .before .before .start-cell .ensures)))
+    let long : length new ≡ cellSize = rw w at (c .before .before .start-cell .kept .1 .1 .1 .0) ∙ lent-long (l .inv) t (z .pre .states) in
+    rw w (laid-more (l .inv) t (z .pre .states) new long (start-is (netlistOf (z .args .size) (z .args .table .now)) (l .k) (z .pre) t (c .before .before .before .before .before .before .kind .ensures) (c .before .before .before .before .before .filling .ensures) (c .before .before .before .before .fill-colour .ensures) new (c .before .before .start-cell .ensures)))
 
 same-length : tie.Need-same-length Inv-loop μ-loop
 same-length c = c .before .before .loop .inv .long
@@ -92,12 +81,9 @@ write-start-spec =
     Inv-loop
     μ-loop
     loop-holds
-    mul-f
-    shared-slice-read-kind
-    add-n
-    shared-slice-read-n
-    add-c
-    shared-slice-read-c
+    kind-requires
+    filling-requires
+    fill-colour-requires
     mul-g
     add-h
     sub-start-cell

@@ -3,8 +3,6 @@ use Prim.Native.Nat.{suc, _-_}
 use native.Mathlib.Omega.{arith}
 use Rattle.state.proofs.came_in.Statement.{statement}
 use Rattle.state.proofs.came_in.Tie as tie
-use Rattle.state.proofs.came_in.Reads as reads
-use Rattle.state.proofs.came_in.Lts as lts
 
 returns : tie.Need-returns
 returns c = let m : c .before .args .ma ≡ suc (c .before .args .ma - 1) = omega arith in rw m

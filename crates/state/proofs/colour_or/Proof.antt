@@ -4,8 +4,6 @@ use native.Mathlib.Omega.{arith}
 use borrow.Author.Needs.{needs}
 use Rattle.state.proofs.colour_or.Statement.{statement}
 use Rattle.state.proofs.colour_or.Tie as tie
-use Rattle.state.proofs.colour_or.Reads as reads
-use Rattle.state.proofs.colour_or.Lts as lts
 
 sub-result : tie.Need-sub-result
 sub-result c = search needs

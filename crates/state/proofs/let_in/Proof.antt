@@ -5,35 +5,40 @@ use Rattle.cells.proofs.Cells.{queue-length, queue-count}
 use Rattle.state.proofs.Queues.{cell-came}
 use Rattle.state.proofs.let_in.Statement.{statement}
 use Rattle.state.proofs.let_in.Tie as tie
-use Rattle.state.proofs.let_in.Reads as reads
-use Rattle.state.proofs.let_in.Lts as lts
-use Rattle.state.proofs.came_in.Reads as came-in-reads
-use Rattle.state.proofs.colour_or.Reads as colour-or-reads
-use Rattle.state.proofs.wide.Reads as wide-reads
 
 slice-read-b : tie.Need-slice-read-b
-slice-read-b c = omega (arith, queue-length (c .before .before .args .q .now) (c .before .before .pre .0), queue-count (c .before .before .args .q .now) (c .before .before .pre .0), c .before .before .pre .1)
+slice-read-b c =
+    let z = c .before .before in
+    omega (arith, queue-length (z .args .q .now) (z .pre .0), queue-count (z .args .q .now) (z .pre .0), z .pre .1)
 
 came-in-requires : tie.Need-came-in-requires
 came-in-requires c κs = search needs
 
 add-b : tie.Need-add-b
-add-b c = omega (arith, queue-length (c .before .before .before .args .q .now) (c .before .before .before .pre .0), queue-count (c .before .before .before .args .q .now) (c .before .before .before .pre .0), c .before .before .before .pre .1, c .came-in .ensures)
+add-b c =
+    let z = c .before .before .before in
+    omega (arith, queue-length (z .args .q .now) (z .pre .0), queue-count (z .args .q .now) (z .pre .0), z .pre .1, c .came-in .ensures)
 
 wide-requires : tie.Need-wide-requires
 wide-requires c κs = search needs
 
 slice-read-old : tie.Need-slice-read-old
-slice-read-old c = omega (arith, queue-length (c .before .before .before .before .before .args .q .now) (c .before .before .before .before .before .pre .0), queue-count (c .before .before .before .before .before .args .q .now) (c .before .before .before .before .before .pre .0), c .before .before .before .before .before .pre .1, c .before .before .came-in .ensures, c .before .wide .ensures)
+slice-read-old c =
+    let z = c .before .before .before .before .before in
+    omega (arith, queue-length (z .args .q .now) (z .pre .0), queue-count (z .args .q .now) (z .pre .0), z .pre .1, c .before .before .came-in .ensures, c .before .wide .ensures .0)
 
 colour-or-requires : tie.Need-colour-or-requires
 colour-or-requires c κs = search needs
 
 slice-write-q : tie.Need-slice-write-q
-slice-write-q c = omega (arith, queue-length (c .before .before .before .before .before .before .args .q .now) (c .before .before .before .before .before .before .pre .0), queue-count (c .before .before .before .before .before .before .args .q .now) (c .before .before .before .before .before .before .pre .0), c .before .before .before .before .before .before .pre .1, c .before .before .before .came-in .ensures, c .before .before .wide .ensures)
+slice-write-q c =
+    let z = c .before .before .before .before .before .before in
+    omega (arith, queue-length (z .args .q .now) (z .pre .0), queue-count (z .args .q .now) (z .pre .0), z .pre .1, c .before .before .before .came-in .ensures, c .before .before .wide .ensures .0)
 
 slice-write-q-2 : tie.Need-slice-write-q-2
-slice-write-q-2 c = simp length-set (omega (arith, queue-length (c .before .before .before .before .before .before .args .q .now) (c .before .before .before .before .before .before .pre .0), queue-count (c .before .before .before .before .before .before .args .q .now) (c .before .before .before .before .before .before .pre .0), c .before .before .before .before .before .before .pre .1))
+slice-write-q-2 c =
+    let z = c .before .before .before .before .before .before in
+    simp length-set (omega (arith, queue-length (z .args .q .now) (z .pre .0), queue-count (z .args .q .now) (z .pre .0), z .pre .1))
 
 same-length : tie.Need-same-length
 same-length c = search needs
@@ -41,7 +46,7 @@ same-length c = search needs
 returns : tie.Need-returns
 returns c =
     let z = c .before .before .before .before .before .before in
-    rw (c .colour-or .ensures, c .before .before .wide .ensures, c .before .before .before .came-in .ensures) (cell-came (z .args .q .now) (z .args .ma) (z .pre .0) (z .pre .1))
+    rw (c .colour-or .ensures, c .before .before .wide .ensures .0, c .before .before .before .came-in .ensures) (cell-came (z .args .q .now) (z .args .ma) (z .pre .0) (z .pre .1))
 
 pub let-in-spec : {M : Type 1} → statement M
 let-in-spec =

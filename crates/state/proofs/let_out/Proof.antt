@@ -4,9 +4,6 @@ use native.Mathlib.Omega.{arith}
 use borrow.Author.Needs.{needs}
 use Rattle.state.proofs.let_out.Statement.{statement}
 use Rattle.state.proofs.let_out.Tie as tie
-use Rattle.state.proofs.let_out.Reads as reads
-use Rattle.state.proofs.let_out.Lts as lts
-use Rattle.state.proofs.drop_front.Reads as drop-front-reads
 
 drop-front-requires : tie.Need-drop-front-requires
 drop-front-requires c κs = (c .before .before .before .pre .0, c .before .before .before .pre .1 (c .before .if1 .taken))

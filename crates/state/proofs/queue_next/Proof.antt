@@ -2,14 +2,10 @@ use mathlib.Core.Path.{_≡_}
 use native.Mathlib.Omega.{arith}
 use borrow.Author.Needs.{needs}
 use Rattle.cells.specs.Cells.{queueColours}
-use Rattle.state.specs.Step.{dropped}
 use Rattle.cells.proofs.Cells.{colours-of-cell, cell-queue}
+use Rattle.state.specs.Step.{dropped}
 use Rattle.state.proofs.queue_next.Statement.{statement}
 use Rattle.state.proofs.queue_next.Tie as tie
-use Rattle.state.proofs.queue_next.Reads as reads
-use Rattle.state.proofs.queue_next.Lts as lts
-use Rattle.state.proofs.let_in.Reads as let-in-reads
-use Rattle.state.proofs.let_out.Reads as let-out-reads
 
 let-out-requires : tie.Need-let-out-requires
 let-out-requires c κs = (c .before .before .pre .whole, c .before .before .pre .out)

@@ -3,14 +3,13 @@ use Prim.Native.Nat.{_-_, _≤_}
 use native.Mathlib.Omega.{arith}
 use lib.ListN.{length, drop, length-set}
 use lib.Seq.{paste, paste-zero}
+use Rattle.cells.specs.Cells.{cellSize}
 use Rattle.state.proofs.Queues.{shift-turn}
 use Rattle.state.proofs.shift.Statement.{statement}
 use Rattle.state.proofs.shift.Tie as tie
-use Rattle.state.proofs.shift.Reads as reads
-use Rattle.state.proofs.shift.Lts as lts
 
 abbrev Inv-loop : tie.InvT-loop
-Inv-loop q₀ j₀ q j = (j ≤ 62) × (length q ≡ 64) × (q ≡ paste q₀ 1 (drop 2 q₀) j)
+Inv-loop q₀ j₀ q j = (j ≤ 62) × (length q ≡ cellSize) × (q ≡ paste q₀ 1 (drop 2 q₀) j)
 
 abbrev μ-loop : tie.MeasureT-loop
 μ-loop q₀ j₀ q j = 62 - j

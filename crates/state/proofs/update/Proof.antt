@@ -1,74 +1,46 @@
 use mathlib.Core.Path.{_≡_, _∙_}
-use Prim.Native.Nat.{_+_, _-_, _*_}
+use mathlib.Core.List.{List, []}
+use Prim.Native.Nat.{ℕ, _+_, _-_, _*_}
 use native.Mathlib.Omega.{arith}
-use lib.ListN.{length}
+use lib.ListN.{length, getD}
 use Rattle.netlist.specs.Netlist.{netlistOf}
+use Rattle.cells.specs.Cells.{cellSize}
+use Rattle.cells.proofs.Cells.{Laid, none-laid, all-laid, lent-long, lent-is, laid-more}
 use Rattle.state.specs.Step.{nextAt, stateNext}
-use Rattle.cells.proofs.Cells.{Laid, none-laid, all-laid, lent-long, laid-more}
-use Rattle.state.proofs.Turn.{port-a, port-b, cell-movable, new-is}
 use Rattle.state.proofs.update.Statement.{statement}
 use Rattle.state.proofs.update.Tie as tie
-use Rattle.state.proofs.update.Reads as reads
-use Rattle.state.proofs.update.Lts as lts
-use Rattle.state.proofs.cell_next.Reads as cell-next-reads
-use Rattle.state.proofs.move_at.Reads as move-at-reads
 
 abbrev Inv-loop : tie.InvT-loop
-Inv-loop table size state₀ choices moves k₀ state k = Laid (nextAt (netlistOf size table) state₀ choices moves) (size .components) state₀ state k
+Inv-loop table size state₀ signals k₀ state k = (choices : List ℕ) → Laid (nextAt (netlistOf size table) state₀ choices (λ s. getD signals s 0)) (size .components) state₀ state k
 
 abbrev μ-loop : tie.MeasureT-loop
-μ-loop table size state₀ choices moves k₀ state k = size .components - k
+μ-loop table size state₀ signals k₀ state k = size .components - k
 
 loop-holds : tie.Need-loop-holds Inv-loop μ-loop
-loop-holds c = none-laid _ _ _
+loop-holds c = λ choices. none-laid _ _ _
 
-mul-f : tie.Need-mul-f Inv-loop μ-loop
-mul-f c = omega arith
+mul-at : tie.Need-mul-at Inv-loop μ-loop
+mul-at c = omega arith
 
-shared-slice-read-kind : tie.Need-shared-slice-read-kind Inv-loop μ-loop
-shared-slice-read-kind c = omega arith
-
-add-move-at : tie.Need-add-move-at Inv-loop μ-loop
-add-move-at c = omega arith
-
-move-at-requires : tie.Need-move-at-requires Inv-loop μ-loop
-move-at-requires c κs =
-    let z = c .before .before .before .before .before .before .before .before in
-    (omega arith, port-a (netlistOf (z .args .size) (z .args .table .now)) (z .pre) (c .before .before .before .loop .inv) (c .before .if1 .taken))
-
-add-move-at-2 : tie.Need-add-move-at-2 Inv-loop μ-loop
-add-move-at-2 c = omega arith
-
-move-at-requires-2 : tie.Need-move-at-requires-2 Inv-loop μ-loop
-move-at-requires-2 c κs =
-    let z = c .before .before .before .before .before .before .before .before .before in
-    (omega arith, port-b (netlistOf (z .args .size) (z .args .table .now)) (z .pre) (c .before .before .before .before .loop .inv) (c .before .before .if1 .taken))
-
-shared-slice-read-pick : tie.Need-shared-slice-read-pick Inv-loop μ-loop
-shared-slice-read-pick c = omega arith
-
-mul-g : tie.Need-mul-g Inv-loop μ-loop
-mul-g c = omega arith
-
-add-h : tie.Need-add-h Inv-loop μ-loop
-add-h c = omega arith
+add-end : tie.Need-add-end Inv-loop μ-loop
+add-end c = omega arith
 
 sub-cell-next : tie.Need-sub-cell-next Inv-loop μ-loop
 sub-cell-next c = omega arith
 
 part-cell-next-start : tie.Need-part-cell-next-start Inv-loop μ-loop
-part-cell-next-start c = omega arith
+part-cell-next-start c = omega (arith, c .before .before .loop .inv [] .long)
 
 part-cell-next-end : tie.Need-part-cell-next-end Inv-loop μ-loop
-part-cell-next-end c = omega arith
+part-cell-next-end c = omega (arith, c .before .before .loop .inv [] .long)
 
 cell-next-requires : tie.Need-cell-next-requires Inv-loop μ-loop
 cell-next-requires c κs =
-    let z = c .before .before .before .before .before .before .before .before .before .before .before .before in
-    let l = c .before .before .before .before .before .before .before .loop in
-    let w : 64 * l .k + 64 - 64 * l .k ≡ 64 = omega arith in
-    let t = c .before .before .before .before .before .if1 .taken in
-    rw (w, c .before .before .before .move-at .ensures, c .before .before .move-at2 .ensures) (lent-long (l .inv) t (z .pre .states), cell-movable (netlistOf (z .args .size) (z .args .table .now)) (z .pre) (l .inv) t)
+    let p = c .before .before .before .before .before .before .before .pre in
+    let l = c .before .before .before .loop in
+    let h = c .before .if1 .taken in
+    let w : cellSize * l .k + cellSize - cellSize * l .k ≡ cellSize = omega arith in
+    rw (w, lent-is (l .inv []) h (p .states)) (p .each (l .k) h)
 
 add-k : tie.Need-add-k Inv-loop μ-loop
 add-k c = omega arith
@@ -77,22 +49,23 @@ loop-less : tie.Need-loop-less Inv-loop μ-loop
 loop-less c = omega arith
 
 loop-again : tie.Need-loop-again Inv-loop μ-loop
-loop-again c =
-    let z = c .before .before .before .before .before .before .before .before .before .before .before .before .before .before .before in
-    let l = c .before .before .before .before .before .before .before .before .before .before .loop in
-    let w : 64 * l .k + 64 - 64 * l .k ≡ 64 = omega arith in
-    let t = c .before .before .before .before .before .before .before .before .if1 .taken in
-    let new = c .before .before .cell-next .last .1 .0 in
-    let long : length new ≡ 64 = rw w at (c .before .before .cell-next .kept .1 .0) ∙ lent-long (l .inv) t (z .pre .states) in
-    let is = rw (w, c .before .before .before .before .before .before .move-at .ensures, c .before .before .before .before .before .move-at2 .ensures) at (c .before .before .cell-next .ensures) in
-    rw w (laid-more (l .inv) t (z .pre .states) new long (new-is (netlistOf (z .args .size) (z .args .table .now)) (z .pre) (l .inv) t new is))
+unfolding nextAt
+loop-again c = λ choices.
+    let p = c .before .before .before .before .before .before .before .before .before .before .pre in
+    let l = c .before .before .before .before .before .before .loop in
+    let h = c .before .before .before .before .if1 .taken in
+    let w : cellSize * l .k + cellSize - cellSize * l .k ≡ cellSize = omega arith in
+    let u = l .inv choices in
+    let new = c .before .before .cell-next in
+    let long : length (new .last .1 .1 .0) ≡ cellSize = rw w at (new .kept .1 .1 .0) ∙ lent-long u h (p .states) in
+    rw w (laid-more u h (p .states) (new .last .1 .1 .0) long (rw (w, lent-is u h (p .states)) at (new .ensures (getD choices (l .k) 0))))
 
 same-length : tie.Need-same-length Inv-loop μ-loop
-same-length c = c .before .before .loop .inv .long
+same-length c = c .before .before .loop .inv [] .long
 
 returns : tie.Need-returns Inv-loop μ-loop
 unfolding stateNext
-returns c = all-laid (c .before .before .loop .inv) (omega arith)
+returns c = λ choices. all-laid (c .before .before .loop .inv choices) (omega arith)
 
 pub update-spec : {M : Type 1} → statement M
 update-spec =
@@ -101,15 +74,8 @@ update-spec =
     Inv-loop
     μ-loop
     loop-holds
-    mul-f
-    shared-slice-read-kind
-    add-move-at
-    move-at-requires
-    add-move-at-2
-    move-at-requires-2
-    shared-slice-read-pick
-    mul-g
-    add-h
+    mul-at
+    add-end
     sub-cell-next
     part-cell-next-start
     part-cell-next-end

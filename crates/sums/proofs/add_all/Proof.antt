@@ -5,18 +5,19 @@ use lib.IntN.{pos}
 use mir.Syntax.{w64}
 use mir.Val.{toZ}
 use mir.ValLaws.{toZ-ofZ}
+use native.Mathlib.Omega.{arith}
 use Rattle.integers.specs.Sum.{sumTo, same}
 use Rattle.integers.specs.Tables.{Grown}
 use Rattle.integers.proofs.Near.{near-back}
 use Rattle.integers.proofs.Tables.{grown-is, grown-none, grown-more, near-grown}
-use Rattle.sums.proofs.Bounds.{some-near}
+use Rattle.component.specs.Limits.{mostFlows}
 use Rattle.equations.specs.Numbers.{allFactor}
-use native.Mathlib.Omega.{arith}
+use Rattle.sums.proofs.Bounds.{some-near}
 use Rattle.sums.proofs.add_all.Statement.{statement}
 use Rattle.sums.proofs.add_all.Tie as tie
 
 abbrev Inv-loop : tie.InvT-loop
-Inv-loop s₀ colours from m d₀ s d = (d ≤ colours) × Grown 2040 s₀ (toZ w64 m) (λ v. sumTo d (λ e. cond (true) (same (from + e) v) (pos 0))) s
+Inv-loop s₀ colours from m d₀ s d = (d ≤ colours) × Grown mostFlows s₀ (toZ w64 m) (λ v. sumTo d (λ e. cond (true) (same (from + e) v) (pos 0))) s
 
 abbrev μ-loop : tie.MeasureT-loop
 μ-loop s₀ colours from m d₀ s d = colours - d

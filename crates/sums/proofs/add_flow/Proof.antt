@@ -2,12 +2,13 @@ use mathlib.Core.Path.{sym, subst}
 use Prim.Native.Nat.{_^_}
 use lib.ListN.{getD, set}
 use lib.IntN.{ℤ, pos}
+use native.Mathlib.Omega.{arith}
+use borrow.Author.Needs.{needs}
 use Rattle.integers.specs.Sum.{same}
 use Rattle.integers.specs.Tables.{Grown}
 use Rattle.integers.proofs.Near.{add-fits, added}
 use Rattle.integers.proofs.Tables.{grown-at}
-use native.Mathlib.Omega.{arith}
-use borrow.Author.Needs.{needs}
+use Rattle.component.specs.Limits.{mostFlows}
 use Rattle.sums.proofs.add_flow.Statement.{statement}
 use Rattle.sums.proofs.add_flow.Tie as tie
 
@@ -25,7 +26,7 @@ element-set-from-s c = search needs
 
 returns : tie.Need-returns
 returns c =
-    subst (λ (z : ℤ). Grown 2040 (c .before .args .s .now) (c .before .args .m) (same (c .before .args .v)) (set (c .before .args .s .now) (c .before .args .v) z)) (sym (added (getD (c .before .args .s .now) (c .before .args .v) (pos 0)) (c .before .args .m) (2 ^ 62) (2 ^ 34) (c .before .pre .1 .0 .near (c .before .args .v) (c .before .pre .0)) (c .before .pre .1 .1) (omega arith)))
+    subst (λ (z : ℤ). Grown mostFlows (c .before .args .s .now) (c .before .args .m) (same (c .before .args .v)) (set (c .before .args .s .now) (c .before .args .v) z)) (sym (added (getD (c .before .args .s .now) (c .before .args .v) (pos 0)) (c .before .args .m) (2 ^ 62) (2 ^ 34) (c .before .pre .1 .0 .near (c .before .args .v) (c .before .pre .0)) (c .before .pre .1 .1) (omega arith)))
     (grown-at (c .before .args .s .now) (c .before .args .v) (c .before .args .m) (c .before .pre .1 .0 .long) (c .before .pre .0))
 
 pub add-flow-spec : {M : Type 1} → statement M

@@ -4,10 +4,10 @@ use Prim.Native.Nat.{_^_, _≤_}
 use lib.IntN.{ℤ, pos, natAbs}
 use mir.Syntax.{w64}
 use mir.ValLaws.{toZ-ofZ}
-use Rattle.integers.proofs.Near.{near-fits, near-back, if-near}
-use Rattle.integers.proofs.Tables.{grown-is, grown-if}
 use native.Mathlib.Omega.{arith}
 use borrow.Author.Needs.{needs}
+use Rattle.integers.proofs.Near.{near-fits, near-back, if-near}
+use Rattle.integers.proofs.Tables.{grown-is, grown-if}
 use Rattle.sums.proofs.add_flow_if.Statement.{statement}
 use Rattle.sums.proofs.add_flow_if.Tie as tie
 

@@ -3,14 +3,15 @@ use Prim.Native.Nat.{_^_, _≤_}
 use lib.IntN.{ℤ, natAbs}
 use mir.Syntax.{w64}
 use mir.ValLaws.{toZ-ofZ}
-use Rattle.integers.proofs.Near.{near-fits, near-back}
-use Rattle.integers.proofs.Tables.{near-wider}
-use Rattle.netlist.specs.Netlist.{netlistOf}
-use Rattle.component.proofs.Kind.{row-queue}
-use Rattle.flows.proofs.Terms.{multiplier-near}
-use Rattle.sums.proofs.Sums.{never, term-verdict, term-within, term-place, term-entry-low, term-flows, term-counts}
 use native.Mathlib.Omega.{arith}
 use borrow.Author.Needs.{needs}
+use Rattle.integers.proofs.Near.{near-fits, near-back}
+use Rattle.integers.proofs.Tables.{near-wider}
+use Rattle.record.specs.Table.{row}
+use Rattle.component.proofs.ByKind.{row-queue}
+use Rattle.netlist.specs.Netlist.{netlistOf}
+use Rattle.flows.proofs.Terms.{multiplier-near}
+use Rattle.sums.proofs.Sums.{never, term-verdict, term-within, term-place, term-index-low, term-flows, term-counts}
 use Rattle.sums.proofs.add_term.Statement.{statement}
 use Rattle.sums.proofs.add_term.Tie as tie
 
@@ -38,22 +39,16 @@ add-equation-requires c κs =
     let e = c .before .before .before .before .equation-named .ensures in
     let n : natAbs (t .result .multiplier) ≤ 2 ^ 34 = subst (λ (z : ℤ). natAbs z ≤ 2 ^ 34) (sym (t .ensures .1 .1)) (omega (arith, multiplier-near p (b .args .k))) in
     let fit = near-fits (t .result .multiplier) (2 ^ 34) n (omega arith) in
-    ((b .pre .0 .fewColours, term-within f (b .pre .0) p (b .args .k) (t .ensures .0 .0) (t .ensures .1 .0 .0) e), (b .pre .1 .1 .0, near-back (t .result .multiplier) (2 ^ 34) fit n))
+    ((b .pre .0 .facts .fewColours, term-within f (b .pre .0) p (b .args .k) (t .ensures .0 .0) (t .ensures .1 .0 .0) e), (b .pre .1 .1 .0, near-back (t .result .multiplier) (2 ^ 34) fit n))
 
-mul-wide : tie.Need-mul-wide
-mul-wide c = search needs
-
-shared-slice-read-wide : tie.Need-shared-slice-read-wide
-shared-slice-read-wide c =
-    let b = c .before .before .before .before .before .before .before .before .before .before .before .before in
+kind-requires : tie.Need-kind-requires
+kind-requires c κs =
+    let b = c .before .before .before .before .before .before .before .before .before .before .before in
     let f = netlistOf (b .args .size) (b .args .table .now) in
     let p = b .args .proposal .now in
-    let t = c .before .before .before .before .before .before .before .before .before .term-at in
-    let e = c .before .before .before .before .before .before .before .equation-named .ensures in
-    omega (arith, term-place f (b .pre .0) p (b .args .k) (t .ensures .0 .0) (t .ensures .1 .0 .0) e (c .before .before .before .before .before .before .verdict-on .ensures) (c .before .before .before .before .enum-told .given .1), b .pre .0 .long)
-
-wide-requires : tie.Need-wide-requires
-wide-requires c κs = search needs
+    let t = c .before .before .before .before .before .before .before .before .term-at in
+    let e = c .before .before .before .before .before .before .equation-named .ensures in
+    omega (arith, term-place f (b .pre .0) p (b .args .k) (t .ensures .0 .0) (t .ensures .1 .0 .0) e (c .before .before .before .before .before .verdict-on .ensures) (c .before .before .before .enum-told .given .1), b .pre .0 .facts .long)
 
 mul-add-weight : tie.Need-mul-add-weight
 mul-add-weight c = search needs
@@ -63,14 +58,14 @@ add-add-weight c = search needs
 
 add-weight-requires : tie.Need-add-weight-requires
 add-weight-requires c κs =
-    let b = c .before .before .before .before .before .before .before .before .before .before .before .before .before in
+    let b = c .before .before .before .before .before .before .before .before .before .before .before .before in
     let f = netlistOf (b .args .size) (b .args .table .now) in
     let p = b .args .proposal .now in
-    let t = c .before .before .before .before .before .before .before .before .before .before .term-at in
-    let e = c .before .before .before .before .before .before .before .before .equation-named .ensures in
+    let t = c .before .before .before .before .before .before .before .before .before .term-at in
+    let e = c .before .before .before .before .before .before .before .equation-named .ensures in
     let n : natAbs (t .result .multiplier) ≤ 2 ^ 34 = subst (λ (z : ℤ). natAbs z ≤ 2 ^ 34) (sym (t .ensures .1 .1)) (omega (arith, multiplier-near p (b .args .k))) in
     let fit = near-fits (t .result .multiplier) (2 ^ 34) n (omega arith) in (
-      (λ y. term-entry-low f (b .pre .0) p (b .args .k) (t .ensures .0 .0) (t .ensures .1 .0 .0) e (c .before .before .before .before .before .before .before .verdict-on .ensures) (c .before .before .before .before .before .enum-told .given .1) (sym (row-queue (b .args .table .now) (t .result .component) (c .wide .ensures .0)) ∙ y)),
+      (λ y. omega (arith, term-index-low f (b .pre .0) p (b .args .k) (t .ensures .0 .0) (t .ensures .1 .0 .0) e (c .before .before .before .before .before .before .verdict-on .ensures) (c .before .before .before .before .enum-told .given .1) (sym (row-queue (row (b .args .table .now) (t .result .component)) (c .kind .ensures)) ∙ y), t .ensures .0 .1)),
       (near-wider (2 ^ 60) (2 ^ 62) (omega arith) (b .pre .1 .1 .1), near-back (t .result .multiplier) (2 ^ 34) fit n),
     )
 
@@ -86,18 +81,18 @@ returns c =
 
 returns-2 : tie.Need-returns-2
 returns-2 c =
-    let b = c .before .before .before .before .before .before .before .before .before .before .before .before .before .before in
+    let b = c .before .before .before .before .before .before .before .before .before .before .before .before .before in
     let f = netlistOf (b .args .size) (b .args .table .now) in
     let p = b .args .proposal .now in
-    let t = c .before .before .before .before .before .before .before .before .before .before .before .term-at in
-    let e = c .before .before .before .before .before .before .before .before .before .equation-named .ensures in
+    let t = c .before .before .before .before .before .before .before .before .before .before .term-at in
+    let e = c .before .before .before .before .before .before .before .before .equation-named .ensures in
     let n : natAbs (t .result .multiplier) ≤ 2 ^ 34 = subst (λ (z : ℤ). natAbs z ≤ 2 ^ 34) (sym (t .ensures .1 .1)) (omega (arith, multiplier-near p (b .args .k))) in
     let fit = near-fits (t .result .multiplier) (2 ^ 34) n (omega arith) in
-    let d = c .before .before .before .before .before .before .before .before .verdict-on .ensures in
-    let ok = c .before .before .before .before .before .before .enum-told .given .1 in
+    let d = c .before .before .before .before .before .before .before .verdict-on .ensures in
+    let ok = c .before .before .before .before .before .enum-told .given .1 in
     let m = toZ-ofZ w64 (t .result .multiplier) fit ∙ t .ensures .1 .1 in (
       sym ok ∙ term-verdict f (b .pre .0) p (b .args .k) (t .ensures .0 .0) (t .ensures .1 .0 .0) e d,
-      ((λ x. term-flows f (b .pre .0) p (b .args .k) (t .ensures .0 .0) (t .ensures .1 .0 .0) e d ok m (c .before .before .before .before .add-equation .ensures)), (λ x. term-counts f (b .pre .0) p (b .args .k) (t .ensures .0 .0) (t .ensures .1 .0 .0) e d ok _ m (row-queue (b .args .table .now) (t .result .component) (c .before .wide .ensures .0)) (c .add-weight .ensures))),
+      ((λ x. term-flows f (b .pre .0) p (b .args .k) (t .ensures .0 .0) (t .ensures .1 .0 .0) e d ok m (c .before .before .before .add-equation .ensures)), (λ x. term-counts f (b .pre .0) p (b .args .k) (t .ensures .0 .0) (t .ensures .1 .0 .0) e d ok _ m (row-queue (row (b .args .table .now) (t .result .component)) (c .before .kind .ensures)) (c .add-weight .ensures))),
     )
 
 pub add-term-spec : {M : Type 1} → statement M
@@ -110,9 +105,7 @@ add-term-spec =
     enum-known-named
     enum-told
     add-equation-requires
-    mul-wide
-    shared-slice-read-wide
-    wide-requires
+    kind-requires
     mul-add-weight
     add-add-weight
     add-weight-requires

@@ -1,12 +1,12 @@
 use mathlib.Core.Path.{_≡_, sym, subst, _∙_}
 use Prim.Native.Nat.{ℕ, _-_, _/_, _^_, _≤_}
 use lib.ListN.{length}
+use borrow.Author.Needs.{needs}
+use native.Mathlib.Omega.{arith}
 use Rattle.integers.proofs.Tables.{near-wider}
 use Rattle.netlist.specs.Netlist.{netlistOf}
 use Rattle.sums.specs.Sums.{Added}
 use Rattle.sums.proofs.Sums.{never, added-none, added-more, flows-near, counts-near, bad-here, bad-nowhere}
-use borrow.Author.Needs.{needs}
-use native.Mathlib.Omega.{arith}
 use Rattle.sums.proofs.add_terms.Statement.{statement}
 use Rattle.sums.proofs.add_terms.Tie as tie
 

@@ -1,9 +1,9 @@
 use borrow.Author.Tests.{lt-ltb, le-ltb}
 use mir.Syntax.{w64}
 use mir.ValLaws.{toZ-pos}
-use Rattle.integers.proofs.Near.{sub-fits, subbed}
 use native.Mathlib.Omega.{arith}
 use borrow.Author.Needs.{needs}
+use Rattle.integers.proofs.Near.{sub-fits, subbed}
 use Rattle.sums.proofs.signed_of.Statement.{statement}
 use Rattle.sums.proofs.signed_of.Tie as tie
 

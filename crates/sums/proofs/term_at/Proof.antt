@@ -1,8 +1,8 @@
 use mathlib.Core.Path.{_∙_}
 use mir.Syntax.{w64}
 use mir.ValLaws.{toZ-ofZ}
-use Rattle.sums.proofs.Terms.{term-fields}
 use borrow.Author.Needs.{needs}
+use Rattle.sums.proofs.Terms.{term-fields}
 use Rattle.sums.proofs.term_at.Statement.{statement}
 use Rattle.sums.proofs.term_at.Tie as tie
 

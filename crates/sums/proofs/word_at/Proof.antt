@@ -1,6 +1,6 @@
-use Rattle.sums.proofs.Terms.{word-four}
 use native.Mathlib.Omega.{arith}
 use borrow.Author.Needs.{needs}
+use Rattle.sums.proofs.Terms.{word-four}
 use Rattle.sums.proofs.word_at.Statement.{statement}
 use Rattle.sums.proofs.word_at.Tie as tie
 
@@ -56,7 +56,9 @@ add-result-3 : tie.Need-add-result-3
 add-result-3 c = search needs
 
 returns : tie.Need-returns
-returns c = (word-four (c .before .before .before .before .before .before .before .before .before .args .p .now) (c .before .before .before .before .before .before .before .before .before .args .at) (c .before .before .before .before .before .before .wide .ensures) (c .before .before .before .before .wide2 .ensures) (c .before .before .wide3 .ensures) (c .wide4 .ensures), omega (arith, c .before .before .before .before .before .before .wide .ensures .1, c .before .before .before .before .wide2 .ensures .1, c .before .before .wide3 .ensures .1, c .wide4 .ensures .1))
+returns c =
+    let earlier = c .before .before .before .before .before .before in
+    (word-four (earlier .before .before .before .args .p .now) (earlier .before .before .before .args .at) (earlier .wide .ensures) (c .before .before .before .before .wide2 .ensures) (c .before .before .wide3 .ensures) (c .wide4 .ensures), omega (arith, earlier .wide .ensures .1, c .before .before .before .before .wide2 .ensures .1, c .before .before .wide3 .ensures .1, c .wide4 .ensures .1))
 
 pub word-at-spec : {M : Type 1} → statement M
 word-at-spec =

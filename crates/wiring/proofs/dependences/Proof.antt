@@ -1,19 +1,16 @@
 use mathlib.Core.Path.{_≡_, _∙_}
 use Prim.Native.Nat.{ℕ, _+_, _*_, _-_, _/_, _≤_, _<_}
 use lib.ListN.{length, getD}
-use Rattle.wiring.specs.Signals.{dependence}
-use Rattle.wiring.proofs.Ends.{suc-inj, signals-more}
 use borrow.Author.Needs.{needs}
 use native.Mathlib.Omega.{arith}
+use Rattle.order.specs.Graph.{mostSignals}
+use Rattle.wiring.specs.Signals.{dependence}
+use Rattle.wiring.proofs.Ends.{suc-inj, signals-more}
 use Rattle.wiring.proofs.dependences.Statement.{statement}
 use Rattle.wiring.proofs.dependences.Tie as tie
-use Rattle.wiring.proofs.dependences.Reads as reads
-use Rattle.wiring.proofs.dependences.Lts as lts
-use Rattle.wiring.proofs.end_before.Reads as end-before-reads
-use Rattle.wiring.proofs.put_entries.Reads as put-entries-reads
 
 abbrev Inv-loop : tie.InvT-loop
-Inv-loop table n ends channels deps₀ s₀ deps s = (s ≤ 2 * channels) × (length deps ≡ 2040) × ((t j : ℕ) → t < s → j < 4 → getD deps (4 * t + j) 0 ≡ dependence table n t j)
+Inv-loop table n ends channels deps₀ s₀ deps s = (s ≤ 2 * channels) × (length deps ≡ 4 * mostSignals) × ((t j : ℕ) → t < s → j < 4 → getD deps (4 * t + j) 0 ≡ dependence table n t j)
 
 abbrev μ-loop : tie.MeasureT-loop
 μ-loop table n ends channels deps₀ s₀ deps s = 2 * channels - s

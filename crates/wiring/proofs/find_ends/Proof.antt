@@ -1,16 +1,13 @@
 use mathlib.Core.Path.{_≡_, sym, ap, _∙_}
 use native.Mathlib.Nat.{add-zero}
 use lib.ListN.{length-replicate}
-use Rattle.wiring.proofs.Ends.{ends-none, found-at}
 use borrow.Author.Needs.{needs}
 use native.Mathlib.Omega.{arith}
 use Prim.Native.Nat.{_*_, _-_, _≤_, ℕ, _+_}
-use Rattle.wiring.specs.Stages.{FoundEnds}
+use Rattle.wiring.specs.Stages.{FoundEnds, endsSize}
+use Rattle.wiring.proofs.Ends.{ends-none, found-at}
 use Rattle.wiring.proofs.find_ends.Statement.{statement}
 use Rattle.wiring.proofs.find_ends.Tie as tie
-use Rattle.wiring.proofs.find_ends.Reads as reads
-use Rattle.wiring.proofs.find_ends.Lts as lts
-use Rattle.wiring.proofs.note_end.Reads as note-end-reads
 
 two : (x : ℕ) → x + 1 + 1 ≡ x + 2
 two x = omega arith
@@ -60,7 +57,7 @@ loop-again c =
 same-length : tie.Need-same-length Inv-loop μ-loop
 same-length c =
     let s = c .before .before .before .before in
-    c .before .loop .inv .1 .long ∙ sym (rw (s .pre .1) (length-replicate {A = ℕ} 513 0))
+    c .before .loop .inv .1 .long ∙ sym (rw (s .pre .1) (length-replicate {A = ℕ} endsSize 0))
 
 returns : tie.Need-returns Inv-loop μ-loop
 returns c =

@@ -3,15 +3,12 @@ use mathlib.Core.Bool.{false, not, _&&_}
 use Prim.Native.Nat.{ℕ, _+_, _*_, _-_, _≤_, _<_}
 use lib.ListN.{getD}
 use borrow.Author.Count.{below-more}
-use Rattle.digits.proofs.Least.{least-at, least-none}
-use Rattle.wiring.specs.Ports.{single}
 use borrow.Author.Needs.{needs}
 use native.Mathlib.Omega.{arith}
+use Rattle.digits.proofs.Least.{least-at, least-none}
+use Rattle.wiring.specs.Ports.{single}
 use Rattle.wiring.proofs.first_unmatched.Statement.{statement}
 use Rattle.wiring.proofs.first_unmatched.Tie as tie
-use Rattle.wiring.proofs.first_unmatched.Reads as reads
-use Rattle.wiring.proofs.first_unmatched.Lts as lts
-use Rattle.wiring.proofs.single_end.Reads as single-end-reads
 
 abbrev Inv-loop : tie.InvT-loop
 Inv-loop ends channels x₀ x = (x ≤ channels) × ((j : ℕ) → j < x → not (single (getD ends (2 * j) 0) && single (getD ends (2 * j + 1) 0)) ≡ false)

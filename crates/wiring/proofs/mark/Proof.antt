@@ -4,8 +4,6 @@ use borrow.Author.Tests.{eq-eqb, ne-eqb}
 use borrow.Author.Needs.{needs}
 use Rattle.wiring.proofs.mark.Statement.{statement}
 use Rattle.wiring.proofs.mark.Tie as tie
-use Rattle.wiring.proofs.mark.Reads as reads
-use Rattle.wiring.proofs.mark.Lts as lts
 
 add-result : tie.Need-add-result
 add-result c = search needs

@@ -1,9 +1,7 @@
-use Rattle.wiring.proofs.Ports.{ports, port-code}
 use borrow.Author.Needs.{needs}
+use Rattle.wiring.proofs.Ports.{ports, port-code}
 use Rattle.wiring.proofs.port_code.Statement.{statement}
 use Rattle.wiring.proofs.port_code.Tie as tie
-use Rattle.wiring.proofs.port_code.Reads as reads
-use Rattle.wiring.proofs.port_code.Lts as lts
 
 mul-result : tie.Need-mul-result
 mul-result c = search needs

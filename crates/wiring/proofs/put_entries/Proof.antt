@@ -1,20 +1,17 @@
 use mathlib.Core.Path.{_≡_, refl, _∙_}
 use Prim.Native.Nat.{ℕ, _+_, _*_, _-_, _≤_, _<_}
 use lib.ListN.{length, getD, length-set}
-use Rattle.wiring.specs.Signals.{dependsAt}
-use Rattle.wiring.proofs.Ends.{entries-more}
 use borrow.Author.Needs.{needs}
 use native.Mathlib.Omega.{arith}
+use Rattle.order.specs.Graph.{mostSignals}
+use Rattle.wiring.specs.Signals.{dependsAt}
+use Rattle.wiring.proofs.Ends.{entries-more}
 use Rattle.wiring.proofs.put_entries.Statement.{statement}
 use Rattle.wiring.proofs.put_entries.Tie as tie
-use Rattle.wiring.proofs.put_entries.Reads as reads
-use Rattle.wiring.proofs.put_entries.Lts as lts
-use Rattle.wiring.proofs.depends_at.Reads as depends-at-reads
-use Rattle.wiring.proofs.end_code.Reads as end-code-reads
 
 abbrev Inv-loop : tie.InvT-loop
 Inv-loop table e s deps₀ code j₀ deps j =
-    (j ≤ 4) × (length deps ≡ 2040) × ((q : ℕ) → q < 4 * s → getD deps q 0 ≡ getD deps₀ q 0) × ((i : ℕ) → i < j → getD deps (4 * s + i) 0 ≡ dependsAt table e i)
+    (j ≤ 4) × (length deps ≡ 4 * mostSignals) × ((q : ℕ) → q < 4 * s → getD deps q 0 ≡ getD deps₀ q 0) × ((i : ℕ) → i < j → getD deps (4 * s + i) 0 ≡ dependsAt table e i)
 
 abbrev μ-loop : tie.MeasureT-loop
 μ-loop table e s deps₀ code j₀ deps j = 4 - j

@@ -1,8 +1,6 @@
 use borrow.Author.Needs.{needs}
 use Rattle.wiring.proofs.single_end.Statement.{statement}
 use Rattle.wiring.proofs.single_end.Tie as tie
-use Rattle.wiring.proofs.single_end.Reads as reads
-use Rattle.wiring.proofs.single_end.Lts as lts
 
 returns : tie.Need-returns
 returns c = search needs

@@ -4,8 +4,6 @@ use native.Mathlib.Omega.{arith}
 use borrow.Author.Needs.{needs}
 use Rattle.wiring.proofs.slot.Statement.{statement}
 use Rattle.wiring.proofs.slot.Tie as tie
-use Rattle.wiring.proofs.slot.Reads as reads
-use Rattle.wiring.proofs.slot.Lts as lts
 
 mul-result : tie.Need-mul-result
 mul-result c = search needs

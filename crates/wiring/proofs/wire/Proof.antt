@@ -1,15 +1,9 @@
-use Rattle.wiring.proofs.Sound.{wire-channel, wire-circle, wire-sound, sound-ends}
 use mathlib.Core.Path.{refl}
 use native.Mathlib.Omega.{arith}
 use borrow.Author.Needs.{needs}
+use Rattle.wiring.proofs.Sound.{wire-channel, wire-circle, wire-sound, sound-ends}
 use Rattle.wiring.proofs.wire.Statement.{statement}
 use Rattle.wiring.proofs.wire.Tie as tie
-use Rattle.wiring.proofs.wire.Reads as reads
-use Rattle.wiring.proofs.wire.Lts as lts
-use Rattle.order.proofs.order_of.Reads as order-of-reads
-use Rattle.wiring.proofs.dependences.Reads as dependences-reads
-use Rattle.wiring.proofs.find_ends.Reads as find-ends-reads
-use Rattle.wiring.proofs.first_unmatched.Reads as first-unmatched-reads
 
 find-ends-requires : tie.Need-find-ends-requires
 find-ends-requires c κs = search needs

@@ -1,9 +1,7 @@
-use Rattle.rules.proofs.Values.{offered-bit}
 use borrow.Author.Needs.{needs}
+use Rattle.rules.proofs.Values.{offered-bit}
 use Rattle.rules.proofs.HeldSink.take.Statement.{statement}
 use Rattle.rules.proofs.HeldSink.take.Tie as tie
-use Rattle.rules.proofs.HeldSink.take.Reads as reads
-use Rattle.rules.proofs.HeldSink.take.Lts as lts
 
 returns : tie.Need-returns
 returns c = search needs

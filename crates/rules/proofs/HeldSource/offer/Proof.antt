@@ -1,8 +1,6 @@
 use borrow.Author.Needs.{needs}
 use Rattle.rules.proofs.HeldSource.offer.Statement.{statement}
 use Rattle.rules.proofs.HeldSource.offer.Tie as tie
-use Rattle.rules.proofs.HeldSource.offer.Reads as reads
-use Rattle.rules.proofs.HeldSource.offer.Lts as lts
 
 enum-told : tie.Need-enum-told
 enum-told c = search needs
