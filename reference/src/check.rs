@@ -55,16 +55,16 @@ pub fn accepted_sum(file: &[u8], proposal: &[u8]) -> Result<Sum, Refusal> {
     let fabric = read_file(file)?;
     let mut flows = vec![0; MOST_COLOURS * fabric.channels];
     let mut weights = vec![0; MOST_COLOURS * fabric.components.len()];
-    for (number, term) in read_proposal(proposal)?.enumerate() {
-        let component = fabric.components.get(term.component);
-        let named = component.and_then(|named| equation(named, fabric.colours, term.index));
-        let equation = named.ok_or(Refusal::NoEquation { term: number })?;
+    for (place, term) in read_proposal(proposal)?.enumerate() {
+        let no_equation = Refusal::NoEquation { term: place };
+        let component = fabric.components.get(term.component).ok_or(no_equation)?;
+        let equation = equation(component, fabric.colours, term.index).ok_or(no_equation)?;
         // A flow cancels if, over all terms, the multiplier times the factor adds up to 0.
         for (flow, factor) in equation {
             flows[flow.number()] += term.multiplier * factor;
         }
         // The weight of n(q,d) is the sum of the multipliers of the terms that name q and d.
-        if fabric.components[term.component].kind == Kind::Queue {
+        if component.kind == Kind::Queue {
             weights[MOST_COLOURS * term.component + term.index] += term.multiplier;
         }
     }

@@ -1,12 +1,12 @@
 //! The choices: a byte a component in each step.
 
 use crate::component::{Component, Kind};
-use crate::state::holds_allowed;
+use crate::state::none_or_emitted;
 
 /// Source 0 or 1 + an emitted colour; sink and merge 0 or 1; others 0.
 pub fn is_allowed(component: &Component, choice: u8) -> bool {
     match component.kind {
-        Kind::Source => holds_allowed(component, choice),
+        Kind::Source => none_or_emitted(component, choice),
         Kind::Sink | Kind::Merge => choice <= 1,
         _ => choice == 0,
     }

@@ -3,8 +3,8 @@
 use crate::component::Component;
 use crate::dependences::{dependences, Dependence, Signal};
 
-/// A fabric is refused exactly if its dependences hold a circle.
-pub fn hold_circle(components: &[Component]) -> bool {
+/// A fabric is refused exactly if these dependences hold a circle.
+pub fn has_circle(components: &[Component]) -> bool {
     let all = components.iter().flat_map(dependences).collect();
     !left_by_removal(all).is_empty()
 }

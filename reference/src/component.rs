@@ -61,7 +61,7 @@ impl Kind {
     }
 }
 
-#[derive(Clone, Copy, PartialEq, Eq, Debug)]
+#[derive(Clone, Copy, Debug)]
 pub struct Component {
     pub kind: Kind,
     /// A, B and C.

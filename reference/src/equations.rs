@@ -6,7 +6,7 @@ use crate::component::{Component, Kind, MOST_COLOURS};
 pub const INDEXES: usize = 16;
 
 /// L(x,d): the transfers of colour d on channel x since start.
-#[derive(Clone, Copy, PartialEq, Eq, PartialOrd, Ord, Debug)]
+#[derive(Clone, Copy)]
 pub struct Flow {
     pub channel: u8,
     pub colour: usize,

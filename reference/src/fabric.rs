@@ -1,14 +1,13 @@
 //! A fabric, and the tests that a file and an open table share.
 
 use crate::channel_ends::lowest_faulty_channel;
-use crate::circle::hold_circle;
+use crate::circle::has_circle;
 use crate::component::{Component, MOST_COLOURS};
 use crate::refusal::Refusal;
 
 pub const MOST_COMPONENTS: usize = 128;
-pub const MOST_CHANNELS: usize = 255;
+const MOST_CHANNELS: usize = 255;
 
-#[derive(Clone, PartialEq, Eq, Debug)]
 pub struct Fabric {
     pub colours: usize,
     pub channels: usize,
@@ -20,21 +19,21 @@ impl Fabric {
     pub fn tested(
         colours: usize,
         channels: usize,
-        read: impl ExactSizeIterator<Item = Option<Component>>,
+        read: impl Iterator<Item = Option<Component>>,
     ) -> Result<Fabric, Refusal> {
-        let mut components = Vec::with_capacity(read.len());
+        let mut components = Vec::new();
         for (place, component) in read.enumerate() {
             match component {
                 Some(component) if component.is_good(colours, channels) => {
                     components.push(component)
                 }
-                _ => return Err(Refusal::Field { component: place }),
+                _ => return Err(Refusal::BadField { component: place }),
             }
         }
         if let Some(channel) = lowest_faulty_channel(&components, channels) {
             return Err(Refusal::ChannelEnds { channel });
         }
-        if hold_circle(&components) {
+        if has_circle(&components) {
             return Err(Refusal::Circle);
         }
         Ok(Fabric {
@@ -50,5 +49,5 @@ pub fn test_ranges(components: usize, channels: u64, colours: u64) -> Result<(),
     let good = (1..=MOST_COMPONENTS).contains(&components)
         && (1..=MOST_CHANNELS as u64).contains(&channels)
         && (1..=MOST_COLOURS as u64).contains(&colours);
-    good.then_some(()).ok_or(Refusal::Range)
+    good.then_some(()).ok_or(Refusal::CountRange)
 }

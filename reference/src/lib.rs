@@ -4,6 +4,7 @@
 //! `check` judges a proposed sum. Every call answers with a `Result`; a `Refusal` knows its number
 //! and its place.
 
+// The document's rules and calls.
 pub mod channel_ends;
 pub mod check;
 pub mod choices;
@@ -23,6 +24,7 @@ pub mod state;
 pub mod state_calls;
 pub mod terms;
 
+// Fabrics, states and proposals to try them on.
 pub mod null_space;
 pub mod panels;
 pub mod random;

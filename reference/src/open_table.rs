@@ -9,7 +9,7 @@ pub const ROW: usize = 24;
 /// Refusals 4, 3, 6, 7 and 8, in this order.
 pub fn read_table(colours: u64, channels: u64, table: &[u8]) -> Result<Fabric, Refusal> {
     let (rows, []) = table.as_chunks() else {
-        return Err(Refusal::Length);
+        return Err(Refusal::WrongLength);
     };
     test_ranges(rows.len(), channels, colours)?;
     Fabric::tested(

@@ -9,16 +9,16 @@ pub const RECORD: usize = 13;
 const RECORD_BITS: u32 = 8 * RECORD as u32;
 const EDITION: u8 = 1;
 
-/// Where the check byte stands.
-pub const CHECK: usize = 3;
+/// Where it stands in the header.
+pub const CHECK_BYTE: usize = 3;
 
 /// Refusals 1 to 8, in this order.
 pub fn read_file(file: &[u8]) -> Result<Fabric, Refusal> {
     let [first, components, channels, _, rest @ ..] = file else {
-        return Err(Refusal::UnderHeader);
+        return Err(Refusal::FileShort);
     };
     if first >> 4 != EDITION || first & 1 != 0 {
-        return Err(Refusal::Edition);
+        return Err(Refusal::WrongEdition);
     }
     let colours = (first >> 1 & 7) + 1;
     test_ranges(
@@ -27,7 +27,7 @@ pub fn read_file(file: &[u8]) -> Result<Fabric, Refusal> {
         u64::from(colours),
     )?;
     if rest.len() != RECORD * usize::from(*components) {
-        return Err(Refusal::Length);
+        return Err(Refusal::WrongLength);
     }
     if byte_sum(file) != 0 {
         return Err(Refusal::ByteSum);
@@ -63,8 +63,8 @@ pub fn write_file(fabric: &Fabric, file: &mut [u8]) {
 
 /// Sets the check byte so that all bytes add up to 0.
 pub fn repair_check_byte(file: &mut [u8]) {
-    file[CHECK] = 0;
-    file[CHECK] = byte_sum(file).wrapping_neg();
+    file[CHECK_BYTE] = 0;
+    file[CHECK_BYTE] = byte_sum(file).wrapping_neg();
 }
 
 fn byte_sum(bytes: &[u8]) -> u8 {

@@ -43,6 +43,15 @@ impl Random {
         self.below(100) < share
     }
 
+    /// From 0 to `most`, often one of the two.
+    pub fn up_to(&mut self, most: usize) -> usize {
+        match self.below(4) {
+            0 => 0,
+            1 => most,
+            _ => self.between(0, most),
+        }
+    }
+
     pub fn pick<T: Copy>(&mut self, from: &[T]) -> T {
         from[self.below(from.len())]
     }
@@ -53,9 +62,11 @@ impl Random {
         }
     }
 
-    pub fn fill(&mut self, bytes: &mut [u8]) {
+    pub fn bytes(&mut self, len: usize) -> Vec<u8> {
+        let mut bytes = vec![0; len];
         for chunk in bytes.chunks_mut(8) {
             chunk.copy_from_slice(&self.any().to_le_bytes()[..chunk.len()]);
         }
+        bytes
     }
 }

@@ -67,12 +67,7 @@ fn draw_fields(random: &mut Random, component: &mut Component, colours: usize) {
         } else {
             random.between(1, 63) as u8
         };
-        let capacity = usize::from(component.capacity);
-        component.filling = match random.below(4) {
-            0 => 0,
-            1 => component.capacity,
-            _ => random.between(0, capacity) as u8,
-        };
+        component.filling = random.up_to(usize::from(component.capacity)) as u8;
         if component.filling > 0 {
             component.fill_colour = random.below(colours) as u8;
         }

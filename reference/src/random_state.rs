@@ -12,7 +12,7 @@ pub fn random_state(random: &mut Random, fabric: &Fabric) -> Vec<u8> {
     let states = bytes.chunks_mut(COMPONENT_STATE);
     for (state, component) in states.zip(&fabric.components) {
         if component.kind == Kind::Queue {
-            let count = random_count(random, usize::from(component.capacity));
+            let count = random.up_to(usize::from(component.capacity));
             state[0] = count as u8;
             state[1..=count].fill_with(|| random.below(fabric.colours) as u8);
         } else if component.kind != Kind::Merge && random.percent(50) {
@@ -20,14 +20,6 @@ pub fn random_state(random: &mut Random, fabric: &Fabric) -> Vec<u8> {
         }
     }
     bytes
-}
-
-fn random_count(random: &mut Random, capacity: usize) -> usize {
-    match random.below(4) {
-        0 => 0,
-        1 => capacity,
-        _ => random.between(0, capacity),
-    }
 }
 
 /// Allowed choices of so many steps, in which few or most of the components choose.

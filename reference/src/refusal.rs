@@ -3,17 +3,17 @@
 #[derive(Clone, Copy, PartialEq, Eq, Debug)]
 pub enum Refusal {
     /// Under 4 bytes.
-    UnderHeader,
+    FileShort,
     /// Edition or the 0 bit wrong.
-    Edition,
+    WrongEdition,
     /// N, M or (pack) C outside its range.
-    Range,
+    CountRange,
     /// Length not 4+13N; in pack not a multiple of 24.
-    Length,
+    WrongLength,
     /// The bytes do not add up to 0.
     ByteSum,
     /// A field, or a row's kind above 7 (lowest component).
-    Field { component: usize },
+    BadField { component: usize },
     /// A channel's ends (lowest channel).
     ChannelEnds { channel: usize },
     /// A circle.
@@ -21,7 +21,7 @@ pub enum Refusal {
     /// Choices not N long; in run, no multiple of N.
     ChoiceCount,
     /// A choice (lowest offset).
-    Choice { offset: usize },
+    BadChoice { offset: usize },
     /// Proposal length no multiple of 4, or over 16,384.
     ProposalLength,
     /// No such component or equation (first such term, from 0).
@@ -33,7 +33,7 @@ pub enum Refusal {
     /// State shorter than 64N.
     StateShort,
     /// State not good (lowest component).
-    State { component: usize },
+    BadState { component: usize },
     /// Result space short.
     ResultSpace,
 }
@@ -41,22 +41,22 @@ pub enum Refusal {
 impl Refusal {
     pub fn number(self) -> u32 {
         match self {
-            Refusal::UnderHeader => 1,
-            Refusal::Edition => 2,
-            Refusal::Range => 3,
-            Refusal::Length => 4,
+            Refusal::FileShort => 1,
+            Refusal::WrongEdition => 2,
+            Refusal::CountRange => 3,
+            Refusal::WrongLength => 4,
             Refusal::ByteSum => 5,
-            Refusal::Field { .. } => 6,
+            Refusal::BadField { .. } => 6,
             Refusal::ChannelEnds { .. } => 7,
             Refusal::Circle => 8,
             Refusal::ChoiceCount => 9,
-            Refusal::Choice { .. } => 10,
+            Refusal::BadChoice { .. } => 10,
             Refusal::ProposalLength => 11,
             Refusal::NoEquation { .. } => 12,
             Refusal::FlowLeft { .. } => 13,
             Refusal::NoWeight => 14,
             Refusal::StateShort => 21,
-            Refusal::State { .. } => 22,
+            Refusal::BadState { .. } => 22,
             Refusal::ResultSpace => 23,
         }
     }
@@ -64,9 +64,9 @@ impl Refusal {
     /// Where the fault lies, 0 for a refusal that names no place.
     pub fn place(self) -> u64 {
         let place = match self {
-            Refusal::Field { component } | Refusal::State { component } => component,
+            Refusal::BadField { component } | Refusal::BadState { component } => component,
             Refusal::ChannelEnds { channel } => channel,
-            Refusal::Choice { offset } => offset,
+            Refusal::BadChoice { offset } => offset,
             Refusal::NoEquation { term } => term,
             Refusal::FlowLeft { flow } => flow,
             _ => 0,

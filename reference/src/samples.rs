@@ -92,6 +92,15 @@ pub fn fork_into_join() -> Fabric {
     }
 }
 
+/// All 256 outputs of 128 forks on one channel.
+pub fn forks_into_one_channel() -> Fabric {
+    Fabric {
+        colours: 1,
+        channels: 2,
+        components: vec![Component::new(Kind::Fork, [1, 0, 0]); 128],
+    }
+}
+
 /// As many queues as asked for, each with its output on its own input.
 pub fn looped_queues(count: usize) -> Fabric {
     let components = (0..count)

@@ -23,21 +23,21 @@ pub fn lowest_bad_state(fabric: &Fabric, states: &[ComponentState]) -> Option<us
 /// Counts are at most capacity, colours below C and held colours emitted; all else is 0.
 fn is_good(component: &Component, colours: usize, state: &ComponentState) -> bool {
     let [first, rest @ ..] = state;
-    let all_0 = |bytes: &[u8]| bytes == &[0; COMPONENT_STATE][..bytes.len()];
+    let all_0 = |bytes: &[u8]| bytes.iter().all(|&byte| byte == 0);
     match component.kind {
         Kind::Queue if *first > component.capacity => false,
         Kind::Queue => {
             let (queued, unused) = rest.split_at(usize::from(*first));
             queued.iter().all(|&d| usize::from(d) < colours) && all_0(unused)
         }
-        Kind::Source => holds_allowed(component, *first) && all_0(rest),
+        Kind::Source => none_or_emitted(component, *first) && all_0(rest),
         Kind::Sink => *first <= 1 && all_0(rest),
         _ => all_0(state),
     }
 }
 
 /// 0, or 1 + a colour that the source emits.
-pub fn holds_allowed(source: &Component, byte: u8) -> bool {
+pub fn none_or_emitted(source: &Component, byte: u8) -> bool {
     let held = colour_or_none(byte).map(usize::from);
     held.is_none_or(|colour| colour < MOST_COLOURS && source.mask_names(colour))
 }

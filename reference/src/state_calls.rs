@@ -73,7 +73,7 @@ fn read_with_state<'a>(
 ) -> Result<(Fabric, &'a mut [ComponentState]), Refusal> {
     let (fabric, states) = read_with_space(file, state)?;
     match lowest_bad_state(&fabric, states) {
-        Some(component) => Err(Refusal::State { component }),
+        Some(component) => Err(Refusal::BadState { component }),
         None => Ok((fabric, states)),
     }
 }
@@ -81,7 +81,7 @@ fn read_with_state<'a>(
 /// Refusal 10.
 fn test_choices(fabric: &Fabric, choices: &[u8]) -> Result<(), Refusal> {
     match lowest_bad_choice(&fabric.components, choices) {
-        Some(offset) => Err(Refusal::Choice { offset }),
+        Some(offset) => Err(Refusal::BadChoice { offset }),
         None => Ok(()),
     }
 }

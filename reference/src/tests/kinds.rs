@@ -32,7 +32,7 @@ fn a_function_maps() {
 fn a_fork_maps_each_branch_by_its_own() {
     let fork = Component {
         first_map: TURNED,
-        second_map: [2, 2, 0, 0, 0, 0, 0, 0],
+        second_map: [2, 0, 1, 0, 0, 0, 0, 0],
         ..Component::new(Kind::Fork, [0, 1, 2])
     };
     let fabric = Fabric {
@@ -41,8 +41,9 @@ fn a_fork_maps_each_branch_by_its_own() {
         components: vec![emits_three(0), fork, sink(1), sink(2)],
     };
     let mut state = started(&fabric);
-    assert_eq!(moves(&fabric, &mut state, &[2, 0, 1, 1]), [2, 3, 3]);
-    assert_eq!(moves(&fabric, &mut state, &[3, 0, 1, 1]), [3, 1, 1]);
+    assert_eq!(moves(&fabric, &mut state, &[1, 0, 1, 1]), [1, 2, 3]);
+    assert_eq!(moves(&fabric, &mut state, &[2, 0, 1, 1]), [2, 3, 1]);
+    assert_eq!(moves(&fabric, &mut state, &[3, 0, 1, 1]), [3, 1, 2]);
 }
 
 #[test]
@@ -76,8 +77,11 @@ fn a_switch_goes_by_its_mask() {
         components: vec![emits_three(0), switch, sink(1), sink(2)],
     };
     let mut state = started(&fabric);
-    assert_eq!(moves(&fabric, &mut state, &[2, 0, 1, 0]), [2, 2, 0]);
-    assert_eq!(moves(&fabric, &mut state, &[1, 0, 1, 0]), [0, 0, 0]);
+    assert_eq!(moves(&fabric, &mut state, &[2, 0, 1, 1]), [2, 2, 0]);
+    assert_eq!(first_bytes(&state), [0, 0, 0, 1]);
+    assert_eq!(moves(&fabric, &mut state, &[1, 0, 1, 0]), [1, 0, 1]);
+    assert_eq!(first_bytes(&state), [0, 0, 1, 0]);
+    assert_eq!(moves(&fabric, &mut state, &[1, 0, 0, 0]), [0, 0, 0]);
     assert_eq!(first_bytes(&state), [1, 0, 1, 0]);
     assert_eq!(moves(&fabric, &mut state, &[0, 0, 0, 1]), [1, 0, 1]);
 }
@@ -93,6 +97,15 @@ fn a_merge_picks_by_choice_only_between_two() {
     assert_eq!(moves(&fabric, &mut state, &[1, 0, 1, 1]), [1, 0, 1]);
     assert_eq!(moves(&fabric, &mut state, &[0, 0, 1, 1]), [0, 0, 0]);
     assert_eq!(first_bytes(&state), [0, 0, 0, 1]);
+}
+
+#[test]
+fn a_merge_waits_for_its_output() {
+    for choice in [0, 1] {
+        let mut state = started(&merged());
+        assert_eq!(moves(&merged(), &mut state, &[1, 1, choice, 0]), [0; 3]);
+        assert_eq!(first_bytes(&state), [1, 1, 0, 0]);
+    }
 }
 
 #[test]

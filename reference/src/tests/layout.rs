@@ -84,7 +84,7 @@ fn last_six_bits_of_a_record_are_a_field() {
 
 #[test]
 fn values_are_not_cut_to_the_width_of_a_field() {
-    for (column, value) in [(0, 8 + 2), (21, 64 + 2), (22, 64 + 2), (23, 8)] {
+    for (column, value) in [(0, 8 + 2), (21, 64), (21, 64 + 2), (22, 64 + 2), (23, 8)] {
         let mut table = credit_loop().to_table();
         table[5 * 24 + column] = value;
         let mut file = [0; ROOM];

@@ -12,8 +12,8 @@ fn of_the_credit_loop() {
     assert_eq!(listing(&file, &proof[..16]), "NO 13 24\n");
     assert_eq!(listing(&file, &[]), "NO 14 0\n");
     assert_eq!(listing(&file, &[0, 0, 0, 1]), "NO 12 0\n");
-    let negative = [proof, [0x04, 0x1F, 0xFF, 0xFF].repeat(3)].concat();
-    assert_eq!(listing(&file, &negative), "NO 13 16\n");
+    let unbalanced = [proof, [0x04, 0x1F, 0xFF, 0xFF].repeat(3)].concat();
+    assert_eq!(listing(&file, &unbalanced), "NO 13 16\n");
 }
 
 #[test]

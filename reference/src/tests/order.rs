@@ -1,7 +1,7 @@
 //! With several faults at once the first test in the order decides.
 
 use super::{pack_answer, unpack_answer};
-use crate::packed::{repair_check_byte, CHECK};
+use crate::packed::{repair_check_byte, CHECK_BYTE};
 use crate::samples::{credit_loop, fork_into_join};
 use crate::{pack, unpack};
 
@@ -14,7 +14,7 @@ fn unpack_from_the_last_test_to_the_first() {
     fabric.components[3].capacity = 1;
     let mut file = fabric.to_file();
     assert_eq!(unpack_answer(&file), (6, 3));
-    file[CHECK] ^= 1;
+    file[CHECK_BYTE] ^= 1;
     assert_eq!(unpack_answer(&file), (5, 0));
     file.push(0);
     assert_eq!(unpack_answer(&file), (4, 0));

@@ -1,7 +1,7 @@
 //! Check: the order of its tests, and what it writes.
 
 use crate::check;
-use crate::packed::CHECK;
+use crate::packed::CHECK_BYTE;
 use crate::refusal::number_and_place;
 use crate::samples::{credit_loop, credit_terms, fork_into_join};
 use crate::terms::write_proposal;
@@ -28,7 +28,7 @@ fn from_the_last_test_to_the_first() {
     assert_eq!(answer(&file, &proposal, 0), (12, 6));
     proposal.push(0);
     assert_eq!(answer(&file, &proposal, 0), (11, 0));
-    file[CHECK] ^= 1;
+    file[CHECK_BYTE] ^= 1;
     assert_eq!(answer(&file, &proposal, 0), (5, 0));
     assert_eq!(answer(&fork_into_join().to_file(), &proposal, 0), (8, 0));
 }

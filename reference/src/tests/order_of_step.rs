@@ -53,6 +53,15 @@ fn from_the_last_test_to_the_first() {
 }
 
 #[test]
+fn a_step_takes_the_choices_of_just_one_step() {
+    let file = credit_loop().to_file();
+    let state = started(&credit_loop());
+    for count in [0, 5, 7, 12] {
+        assert_eq!(step_answer(&file, &state, &vec![0; count], 6), (9, 0));
+    }
+}
+
+#[test]
 fn start_needs_64_bytes_a_component_and_keeps_the_rest() {
     let file = credit_loop().to_file();
     let mut state = [KEPT; 64 * 6 + 5];

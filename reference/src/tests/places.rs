@@ -1,9 +1,8 @@
 //! The place of a refusal is the lowest there is.
 
 use super::{fabric_answer, function, source_then_sink};
-use crate::component::{Component, Kind};
 use crate::fabric::Fabric;
-use crate::samples::{credit_loop, sink, source};
+use crate::samples::{credit_loop, forks_into_one_channel, sink, source};
 
 #[test]
 fn lowest_component_with_a_faulty_field() {
@@ -28,6 +27,16 @@ fn lowest_channel_counts_outputs_and_inputs_together() {
 }
 
 #[test]
+fn a_channel_with_two_outputs_or_two_inputs() {
+    let mut two_outputs = credit_loop();
+    two_outputs.components[5].ports[1] = 0;
+    assert_eq!(fabric_answer(&two_outputs), (7, 0));
+    let mut two_inputs = credit_loop();
+    two_inputs.components[4].ports[0] = 0;
+    assert_eq!(fabric_answer(&two_inputs), (7, 0));
+}
+
+#[test]
 fn a_channel_more_than_the_ports_need() {
     let fabric = Fabric {
         channels: 7,
@@ -47,13 +56,7 @@ fn a_channel_fewer_is_a_field() {
 
 #[test]
 fn all_256_outputs_on_one_channel() {
-    let fork = Component::new(Kind::Fork, [1, 0, 0]);
-    let fabric = Fabric {
-        colours: 1,
-        channels: 2,
-        components: vec![fork; 128],
-    };
-    assert_eq!(fabric_answer(&fabric), (7, 0));
+    assert_eq!(fabric_answer(&forks_into_one_channel()), (7, 0));
 }
 
 #[test]

@@ -20,6 +20,7 @@ fn channels_and_colours_are_never_cut() {
     for channels in [0, 256, 256 + 6, (1 << 32) + 6, u64::MAX] {
         assert_eq!(pack_answer(1, channels, &table), (3, 0));
     }
+    assert_eq!(pack_answer(1, 255, &table), (7, 6));
     for colours in [0, 9, 256 + 1, (1 << 32) + 1, u64::MAX] {
         assert_eq!(pack_answer(colours, 6, &table), (3, 0));
     }
@@ -100,30 +101,44 @@ fn masks_of_source_and_switch() {
     assert_eq!(with_masks(2, 0x80, 0x20), (6, 1));
 }
 
+/// Of each kind the fields that it uses; another value in any other field is refused.
 #[test]
 fn unused_fields_are_0() {
-    let plain = queue(0, 1, 1, 0);
-    let third_port = Component {
-        ports: [0, 1, 1],
-        ..plain
-    };
-    let mut first_map = plain;
-    first_map.first_map[0] = 1;
-    let mut second_map = function(0, 1);
-    second_map.second_map[7] = 1;
-    let mask = Component {
-        mask: 0x80,
-        ..plain
-    };
-    let capacity = Component {
-        capacity: 1,
-        ..function(0, 1)
-    };
-    for component in [third_port, first_map, second_map, mask, capacity] {
-        let fabric = Fabric {
-            colours: 8,
-            ..source_then_sink(component)
-        };
-        assert_eq!(fabric_answer(&fabric), (6, 1));
+    type Change = fn(&mut Component);
+    let changes: [(&str, Change); 9] = [
+        ("A", |changed| changed.ports[0] = 1),
+        ("B", |changed| changed.ports[1] = 1),
+        ("C", |changed| changed.ports[2] = 1),
+        ("first map", |changed| changed.first_map[1] = 1),
+        ("second map", |changed| changed.second_map[1] = 1),
+        ("mask", |changed| changed.mask |= 0x40),
+        ("capacity", |changed| changed.capacity += 1),
+        ("filling", |changed| changed.filling += 1),
+        ("fill colour", |changed| changed.fill_colour = 1),
+    ];
+    let with_three_ports = |kind| Component::new(kind, [0; 3]);
+    let kinds: [(Component, &[&str]); 8] = [
+        (source(0), &["A", "mask"]),
+        (sink(0), &["A"]),
+        (
+            queue(0, 0, 2, 1),
+            &["A", "B", "capacity", "filling", "fill colour"],
+        ),
+        (function(0, 0), &["A", "B", "first map"]),
+        (
+            with_three_ports(Kind::Fork),
+            &["A", "B", "C", "first map", "second map"],
+        ),
+        (with_three_ports(Kind::Join), &["A", "B", "C", "first map"]),
+        (with_three_ports(Kind::Switch), &["A", "B", "C", "mask"]),
+        (with_three_ports(Kind::Merge), &["A", "B", "C"]),
+    ];
+    for (component, used) in kinds {
+        for (field, change) in changes {
+            let mut changed = component;
+            change(&mut changed);
+            let good = changed.is_good(2, 2);
+            assert_eq!(good, used.contains(&field), "{field} of {changed:?}");
+        }
     }
 }

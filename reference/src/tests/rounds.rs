@@ -6,22 +6,20 @@ use crate::samples::{credit_loop, function_row, switch_row};
 use crate::signals::{signals, Channel};
 
 /// The fabric and its choices as they are listed, backwards, and every second one first.
-fn listed_in_each_way(fabric: &Fabric, choices: &[u8]) -> Vec<(Fabric, Vec<u8>)> {
+fn listed_in_each_way(fabric: &Fabric, choices: &[u8]) -> [(Fabric, Vec<u8>); 3] {
     let count = choices.len();
     let forwards: Vec<usize> = (0..count).collect();
     let backwards = (0..count).rev().collect();
     let odd_first = (1..count).step_by(2).chain((0..count).step_by(2)).collect();
-    [forwards, backwards, odd_first]
-        .map(|places| {
-            let components = places.iter().map(|&place| fabric.components[place]);
-            let listed = Fabric {
-                components: components.collect(),
-                ..*fabric
-            };
-            let choices = places.iter().map(|&place| choices[place]);
-            (listed, choices.collect())
-        })
-        .to_vec()
+    [forwards, backwards, odd_first].map(|places| {
+        let components = places.iter().map(|&place| fabric.components[place]);
+        let listed = Fabric {
+            components: components.collect(),
+            ..*fabric
+        };
+        let choices = places.iter().map(|&place| choices[place]);
+        (listed, choices.collect())
+    })
 }
 
 /// The choices of a source that is first and a sink that is last.

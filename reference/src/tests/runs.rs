@@ -2,6 +2,7 @@
 
 use super::{moves, started};
 use crate::check::accepted_sum;
+use crate::fabric::Fabric;
 use crate::random::Random;
 use crate::random_fabric::{random_fabric, Plan};
 use crate::random_proposal::Equations;
@@ -9,7 +10,7 @@ use crate::random_state::{random_choices, random_state};
 use crate::run;
 use crate::terms::write_proposal;
 
-fn fabric_of(random: &mut Random) -> crate::Fabric {
+fn fabric_of(random: &mut Random) -> Fabric {
     let plan = Plan {
         size: random.pick(&[3, 12, 60, 128]),
         colours: random.between(1, 8),
@@ -45,10 +46,11 @@ fn accepted_sums_are_kept() {
             continue;
         };
         let mut state = started(&fabric);
+        assert_eq!(sum.value(state.as_chunks().0), sum.constant);
         for _ in 0..5 {
-            assert_eq!(sum.value(state.as_chunks().0), sum.constant);
             let choices = random_choices(random, &fabric, 10);
             run(&fabric.to_file(), &mut state, &choices).expect("an accepted run");
+            assert_eq!(sum.value(state.as_chunks().0), sum.constant);
             followed += 1;
         }
     }

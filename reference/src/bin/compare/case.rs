@@ -16,7 +16,7 @@ pub enum Call {
 }
 
 /// What a part of the memory holds before a call, and where its guard page lies.
-#[derive(Clone, Debug)]
+#[derive(Clone)]
 pub struct Lent {
     pub bytes: Vec<u8>,
     pub guard: Guard,
@@ -54,21 +54,30 @@ impl LentCall {
             expected,
         }
     }
+
+    pub fn accepted_start() -> LentCall {
+        LentCall::plain(Call::Start, &[], 0, Expected::ACCEPTED)
+    }
 }
 
 /// What the documents themselves say of a call.
 #[derive(Clone)]
 pub enum Expected {
     Nothing,
-    Number(u32),
-    Refused {
-        number: u32,
-        place: u64,
-    },
+    NumberAndPlace(u32, u64),
     /// Accepted, with this result.
     Result(Vec<u8>),
+    /// Accepted, with these moves, and byte 0 of each component's state is so after it.
+    Step {
+        moves: Vec<u8>,
+        first_bytes: Vec<u8>,
+    },
     /// Accepted, with weights and a constant that the listing program prints so.
     Listing(String),
+}
+
+impl Expected {
+    pub const ACCEPTED: Expected = Expected::NumberAndPlace(0, 0);
 }
 
 #[derive(Clone)]

@@ -21,26 +21,26 @@ pub fn credit_loop_cases() -> Vec<Case> {
     count_of_3[64 * 2] = 3;
     vec![
         case(vec![
-            start(),
-            step(SOURCE_CHOOSES, Expected::Result(vec![1, 1, 1, 0, 0, 0])),
-            step(SOURCE_CHOOSES, Expected::Result(vec![1, 1, 1, 0, 0, 0])),
-            step(SOURCE_CHOOSES, Expected::Result(vec![0; 6])),
+            LentCall::accepted_start(),
+            accepted_step(SOURCE_CHOOSES, [1, 1, 1, 0, 0, 0], [0, 0, 1, 0, 0, 1]),
+            accepted_step(SOURCE_CHOOSES, [1, 1, 1, 0, 0, 0], [0, 0, 2, 0, 0, 0]),
+            accepted_step(SOURCE_CHOOSES, [0; 6], [1, 0, 2, 0, 0, 0]),
         ]),
         case(vec![
-            start(),
-            step(SINK_CHOOSES, Expected::Result(vec![0; 6])),
-            step(NO_SUCH_CHOICE, refused(10, 0)),
+            LentCall::accepted_start(),
+            accepted_step(SINK_CHOOSES, [0; 6], [0, 0, 0, 0, 1, 2]),
+            step(NO_SUCH_CHOICE, Expected::NumberAndPlace(10, 0)),
         ]),
         case(vec![
-            start(),
+            LentCall::accepted_start(),
             check(&terms, Expected::Listing(LISTING.to_string())),
-            check(&terms[..4], refused(13, 24)),
-            check(&[], refused(14, 0)),
-            check(&[no_equation], refused(12, 0)),
+            check(&terms[..4], Expected::NumberAndPlace(13, 24)),
+            check(&[], Expected::NumberAndPlace(14, 0)),
+            check(&[no_equation], Expected::NumberAndPlace(12, 0)),
         ]),
         Case {
             state: Lent::new(count_of_3),
-            ..case(vec![step(SOURCE_CHOOSES, refused(22, 2))])
+            ..case(vec![step(SOURCE_CHOOSES, Expected::NumberAndPlace(22, 2))])
         },
     ]
 }
@@ -54,12 +54,12 @@ fn case(calls: Vec<LentCall>) -> Case {
     }
 }
 
-fn refused(number: u32, place: u64) -> Expected {
-    Expected::Refused { number, place }
-}
-
-fn start() -> LentCall {
-    LentCall::plain(Call::Start, &[], 0, Expected::Number(0))
+fn accepted_step(choices: [u8; 6], moves: [u8; 6], first_bytes: [u8; 6]) -> LentCall {
+    let expected = Expected::Step {
+        moves: moves.to_vec(),
+        first_bytes: first_bytes.to_vec(),
+    };
+    step(choices, expected)
 }
 
 fn step(choices: [u8; 6], expected: Expected) -> LentCall {

@@ -34,11 +34,11 @@ pub fn random_table(random: &mut Random) -> (Call, Vec<u8>) {
 
 /// Bytes of any value, or all so low that they often suit their fields.
 fn noise(random: &mut Random) -> Vec<u8> {
-    let mut table = vec![0; ROW * random.between(0, 140)];
+    let mut len = ROW * random.between(0, 140);
     if random.percent(20) {
-        table.truncate(random.between(0, table.len()));
+        len = random.between(0, len);
     }
-    random.fill(&mut table);
+    let mut table = random.bytes(len);
     if random.percent(50) {
         let mask = random.pick(&[0x01, 0x03, 0x07]);
         table.iter_mut().for_each(|byte| *byte &= mask);

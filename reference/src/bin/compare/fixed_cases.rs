@@ -4,7 +4,8 @@ use reference::component::{Component, Kind};
 use reference::random::Random;
 use reference::random_fabric::{random_fabric, Plan};
 use reference::samples::{
-    credit_loop, credit_loops, fork_into_join, function_row, looped_queues, queue, sink, source,
+    credit_loop, credit_loops, fork_into_join, forks_into_one_channel, function_row, looped_queues,
+    queue, sink, source,
 };
 use reference::terms::{write_proposal, Term, MOST_TERMS, MULTIPLIER_BOUND};
 use reference::Fabric;
@@ -61,39 +62,44 @@ fn long_runs() -> Vec<Case> {
 /// Each fabric as a file to unpack and as a table to pack; then memory of no length at all.
 fn file_cases() -> Vec<Case> {
     let mut cases = Vec::new();
-    for (fabric, number) in fixed_fabrics() {
+    for (fabric, expected) in fixed_fabrics() {
         let (file, table) = (fabric.to_file(), fabric.to_table());
         let pack = Call::Pack {
             colours: fabric.colours as u64,
             channels: fabric.channels as u64,
         };
         let (file_space, table_space) = (file.len(), table.len());
-        cases.push(fixed_case(Call::Unpack, file, table_space, number));
-        cases.push(fixed_case(pack, table, file_space, number));
+        cases.push(fixed_case(
+            Call::Unpack,
+            file,
+            table_space,
+            expected.clone(),
+        ));
+        cases.push(fixed_case(pack, table, file_space, expected));
     }
-    cases.push(fixed_case(Call::Unpack, Vec::new(), 0, 1));
-    cases.push(fixed_case(
-        Call::Pack {
-            colours: 1,
-            channels: 1,
-        },
-        Vec::new(),
-        0,
-        3,
-    ));
+    let pack = Call::Pack {
+        colours: 1,
+        channels: 1,
+    };
+    for (call, expected) in [
+        (Call::Unpack, Expected::NumberAndPlace(1, 0)),
+        (pack, Expected::NumberAndPlace(3, 0)),
+    ] {
+        cases.push(fixed_case(call, Vec::new(), 0, expected));
+    }
     cases
 }
 
-fn fixed_case(call: Call, input: Vec<u8>, space: usize, number: u32) -> Case {
+fn fixed_case(call: Call, input: Vec<u8>, space: usize, expected: Expected) -> Case {
     Case {
         fabric: Lent::new(input),
         state: Lent::nothing(),
-        calls: vec![LentCall::plain(call, &[], space, Expected::Number(number))],
+        calls: vec![LentCall::plain(call, &[], space, expected)],
         round_trip: true,
     }
 }
 
-fn fixed_fabrics() -> Vec<(Fabric, u32)> {
+fn fixed_fabrics() -> Vec<(Fabric, Expected)> {
     let one_queue = |capacity| {
         let components = vec![source(0), queue(0, 1, capacity, 0), sink(1)];
         Fabric {
@@ -104,20 +110,21 @@ fn fixed_fabrics() -> Vec<(Fabric, u32)> {
     };
     let looped_function = Component::new(Kind::Function, [0, 0, 0]);
     vec![
-        (credit_loop(), 0),
-        (one_queue(63), 0),
-        (one_queue(0), 6),
-        (looped_queues(128), 0),
-        (looped_queues(129), 3),
-        (fork_into_join(), 8),
-        (function_row(128), 0),
+        (credit_loop(), Expected::ACCEPTED),
+        (one_queue(63), Expected::ACCEPTED),
+        (one_queue(0), Expected::NumberAndPlace(6, 1)),
+        (looped_queues(128), Expected::ACCEPTED),
+        (looped_queues(129), Expected::NumberAndPlace(3, 0)),
+        (forks_into_one_channel(), Expected::NumberAndPlace(7, 0)),
+        (fork_into_join(), Expected::NumberAndPlace(8, 0)),
+        (function_row(128), Expected::ACCEPTED),
         (
             Fabric {
                 colours: 1,
                 channels: 1,
                 components: vec![looped_function],
             },
-            8,
+            Expected::NumberAndPlace(8, 0),
         ),
     ]
 }

@@ -43,11 +43,12 @@ fn checked(panel: &Panel) -> Case {
         let listing = Expected::Listing(sum.listing.clone());
         LentCall::plain(Call::Check, &sum.proposal, space, listing)
     });
-    let start = LentCall::plain(Call::Start, &[], 0, Expected::Number(0));
+    let mut calls = vec![LentCall::accepted_start()];
+    calls.extend(checks);
     Case {
         fabric: Lent::new(panel.file.clone()),
         state: Lent::new(vec![0xA5; COMPONENT_STATE * panel.fabric.components.len()]),
-        calls: [start].into_iter().chain(checks).collect(),
+        calls,
         round_trip: false,
     }
 }

@@ -73,7 +73,5 @@ pub fn random_memory(random: &mut Random, exact: usize) -> Vec<u8> {
         85..92 => 0,
         _ => random.between(0, exact),
     };
-    let mut memory = vec![0; space];
-    random.fill(&mut memory);
-    memory
+    random.bytes(space)
 }

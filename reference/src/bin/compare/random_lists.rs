@@ -29,7 +29,7 @@ pub fn random_list(random: &mut Random) -> Case {
 pub fn list_on(random: &mut Random, fabric: &Fabric) -> Case {
     let equations = Equations::of(fabric);
     let mut calls = vec![
-        accepted_start(),
+        LentCall::accepted_start(),
         cancelling_check(random, fabric, &equations),
     ];
     for _ in 0..random.pick(&[0, 1, 5, 20]) {
@@ -42,31 +42,26 @@ pub fn list_on(random: &mut Random, fabric: &Fabric) -> Case {
 /// A run of `LONG` steps, in pieces.
 pub fn long_run(random: &mut Random, fabric: &Fabric) -> Case {
     let equations = Equations::of(fabric);
-    let mut calls = vec![accepted_start()];
+    let mut calls = vec![LentCall::accepted_start()];
     calls.extend((0..3).map(|_| cancelling_check(random, fabric, &equations)));
     let mut left = LONG;
     while left > 0 {
         let piece = random.between(1, left.min(ROOM / fabric.components.len()));
         let choices = random_choices(random, fabric, piece);
-        calls.push(LentCall::plain(Call::Run, &choices, 0, Expected::Number(0)));
+        calls.push(LentCall::plain(Call::Run, &choices, 0, Expected::ACCEPTED));
         left -= piece;
     }
     case_on(random, fabric, 0, calls)
 }
 
 fn case_on(random: &mut Random, fabric: &Fabric, past: usize, calls: Vec<LentCall>) -> Case {
-    let mut state = vec![0; COMPONENT_STATE * fabric.components.len() + past];
-    random.fill(&mut state);
+    let state = random.bytes(COMPONENT_STATE * fabric.components.len() + past);
     Case {
         fabric: lent(random, fabric.to_file()),
         state: lent(random, state),
         calls,
         round_trip: false,
     }
-}
-
-fn accepted_start() -> LentCall {
-    LentCall::plain(Call::Start, &[], 0, Expected::Number(0))
 }
 
 fn cancelling_check(random: &mut Random, fabric: &Fabric, equations: &Equations) -> LentCall {

@@ -2,6 +2,7 @@
 
 use reference::check::Sum;
 use reference::component::MOST_COLOURS;
+use reference::state::COMPONENT_STATE;
 
 use crate::answer::Answer;
 use crate::case::{Call, Case, Expected, Lent};
@@ -20,8 +21,8 @@ const COMPONENT_COUNT: usize = 1;
 /// The parts of lent memory: fabric or table, state, choices or proposal, and a result's memory.
 pub const PARTS: usize = 4;
 pub const FABRIC: usize = 0;
-pub const STATE: usize = 1;
-pub const GIVEN: usize = 2;
+const STATE: usize = 1;
+const GIVEN: usize = 2;
 pub const RESULT: usize = 3;
 
 pub struct Trial {
@@ -63,7 +64,8 @@ impl Trial {
             list.after(lent.call, last, self.parts[STATE].bytes())
                 .map_err(describe)?;
             if case.round_trip && last == 0 {
-                self.round_trip(lent.call, case, &answer)?;
+                self.round_trip(lent.call, case, &answer)
+                    .map_err(describe)?;
             }
         }
         self.followed.add(&list);
@@ -97,27 +99,27 @@ impl Trial {
     }
 
     fn as_expected(&self, expected: &Expected, answer: &Answer) -> Result<(), Difference> {
-        let number = |expected| same("number and the documents' own", answer.number, expected);
+        let number_and_place = |number, place| {
+            same("number and the documents' own", answer.number, number)?;
+            same("place and the documents' own", answer.place, place)
+        };
+        let result = |bytes: &[u8]| {
+            number_and_place(0, 0)?;
+            let written = self.parts[RESULT].bytes();
+            same_bytes("result and the documents' own", written, bytes)
+        };
         match expected {
             Expected::Nothing => Ok(()),
-            Expected::Number(expected) => number(*expected),
-            Expected::Refused {
-                number: refused,
-                place,
-            } => {
-                number(*refused)?;
-                same("place and the documents' own", answer.place, *place)
-            }
-            Expected::Result(bytes) => {
-                number(0)?;
-                same_bytes(
-                    "result and the documents' own",
-                    self.parts[RESULT].bytes(),
-                    bytes,
-                )
+            Expected::NumberAndPlace(number, place) => number_and_place(*number, *place),
+            Expected::Result(bytes) => result(bytes),
+            Expected::Step { moves, first_bytes } => {
+                result(moves)?;
+                let state = self.parts[STATE].bytes().iter().step_by(COMPONENT_STATE);
+                let found: Vec<u8> = state.copied().collect();
+                same_bytes("state and the documents' own", &found, first_bytes)
             }
             Expected::Listing(text) => {
-                number(0)?;
+                number_and_place(0, 0)?;
                 let listing = self.accepted_sum(answer).listing();
                 same("listing and the documents' own", &listing, text)
             }

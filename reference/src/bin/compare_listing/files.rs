@@ -31,7 +31,6 @@ impl fmt::Display for Content {
     }
 }
 
-#[derive(Clone)]
 pub struct Files {
     pub fabric: Content,
     pub proof: Content,

@@ -51,53 +51,44 @@ fn main() -> ExitCode {
     }
 }
 
-/// How many texts of each kind there were.
-#[derive(Default)]
-struct Counts {
-    accepted: u64,
-    negative: u64,
-    refused: u64,
-}
-
-impl Counts {
-    fn add(&mut self, text: &str) {
-        self.accepted += u64::from(!text.starts_with("NO "));
-        self.negative += u64::from(text.contains('-'));
-        self.refused += u64::from(text.starts_with("NO "));
-    }
-}
+/// Each of these must occur in the text of some random case: an accepted sum, a negative number,
+/// and each number that a listing is refused with.
+const KINDS: [&str; 14] = [
+    "SUM ", "-", "NO 1 ", "NO 2 ", "NO 3 ", "NO 4 ", "NO 5 ", "NO 6 ", "NO 7 ", "NO 8 ", "NO 11 ",
+    "NO 12 ", "NO 13 ", "NO 14 ",
+];
 
 fn compare(program: &Program, cases: u64, seed: u64) -> Result<String, String> {
     let fixed = fixed_files();
-    let mut counts = Counts::default();
     for (name, files, text) in &fixed {
-        agree(program, files, text).map_err(|found| format!("{name}: {found}"))?;
-        agree(program, files, &files.text()).map_err(|found| format!("{name}: {found}"))?;
+        for text in [text, &files.text()] {
+            agree(program, files, text).map_err(|found| format!("{name}: {found}"))?;
+        }
     }
+    let mut counts = [0_u64; KINDS.len()];
     for number in 0..cases {
         let files = random_files(&mut Random::new(seed, number));
         let text = files.text();
         agree(program, &files, &text)
             .map_err(|found| format!("case {number} of seed {seed}: {found}"))?;
-        counts.add(&text);
+        for (count, kind) in counts.iter_mut().zip(KINDS) {
+            *count += u64::from(text.contains(kind));
+        }
     }
-    let Counts {
-        accepted,
-        negative,
-        refused,
-    } = counts;
-    let report = format!(
-        "{} fixed cases and {cases} random ones: {accepted} accepted, {negative} of them with a negative number, {refused} refused",
-        fixed.len()
-    );
-    if accepted == 0 || negative == 0 || refused == 0 {
-        return Err(format!("{report}; each must occur"));
+    let mut report = format!("{} fixed cases and {cases} random ones", fixed.len());
+    for (count, kind) in counts.iter().zip(KINDS) {
+        report += &format!(", {count} with {kind:?}");
     }
-    Ok(report + ", no difference")
+    if counts.contains(&0) {
+        return Err(report + "; each must occur");
+    }
+    Ok(report + "; no difference")
 }
 
 fn agree(program: &Program, files: &Files, text: &str) -> Result<(), String> {
-    let printed = program.run(files);
+    let printed = program
+        .run(files)
+        .map_err(|failed| format!("{failed} for {files}"))?;
     if printed == text.as_bytes() {
         return Ok(());
     }

@@ -21,16 +21,21 @@ impl Program {
         }
     }
 
-    /// What it prints.
-    pub fn run(&self, files: &Files) -> Vec<u8> {
+    /// What it prints, or how it failed.
+    pub fn run(&self, files: &Files) -> Result<Vec<u8>, String> {
         self.lay("fabric.bin", &files.fabric);
         self.lay("proof.bin", &files.proof);
         let mut command = Command::new(&self.program);
         command.current_dir(&self.folder).stdin(Stdio::null());
         let output = command.output().expect("the program can be run");
-        assert!(output.status.success(), "the program ends well");
-        assert!(output.stderr.is_empty(), "the program reports no error");
-        output.stdout
+        if output.status.success() && output.stderr.is_empty() {
+            return Ok(output.stdout);
+        }
+        let reported = String::from_utf8_lossy(&output.stderr);
+        Err(format!(
+            "the program ended with {} and reported {reported:?}",
+            output.status
+        ))
     }
 
     fn lay(&self, name: &str, content: &Content) {

@@ -15,8 +15,8 @@ const RECORD_WIDTHS: [usize; 25] = [
 
 pub fn random_file(random: &mut Random) -> Vec<u8> {
     let mut file = match random.below(100) {
-        0..3 => bytes(random, 6),
-        3..5 => bytes(random, 4000),
+        0..3 => noise(random, 6),
+        3..5 => noise(random, 4000),
         5..10 => header_and_noise(random),
         _ => random_or_damaged_fabric(random).to_file(),
     };
@@ -38,17 +38,15 @@ pub fn damage_count(random: &mut Random) -> usize {
     }
 }
 
-fn bytes(random: &mut Random, most: usize) -> Vec<u8> {
-    let mut bytes = vec![0; random.between(0, most)];
-    random.fill(&mut bytes);
-    bytes
+fn noise(random: &mut Random, most: usize) -> Vec<u8> {
+    let len = random.between(0, most);
+    random.bytes(len)
 }
 
 /// Noise behind a header that suits its length.
 fn header_and_noise(random: &mut Random) -> Vec<u8> {
     let components = random.between(1, 128);
-    let mut file = vec![0; file_length(components)];
-    random.fill(&mut file);
+    let mut file = random.bytes(file_length(components));
     file[0] = 0x10 | file[0] & 0x0E;
     file[1] = components as u8;
     file
@@ -74,12 +72,7 @@ fn damage(random: &mut Random, file: &mut Vec<u8>) {
 fn damage_field(random: &mut Random, file: &mut [u8], first_bit: usize, widths: &[usize]) {
     let chosen = random.below(widths.len());
     let start = first_bit + widths[..chosen].iter().sum::<usize>();
-    let highest = (1 << widths[chosen]) - 1;
-    let value = match random.below(4) {
-        0 => 0,
-        1 => highest,
-        _ => random.between(0, highest),
-    };
+    let value = random.up_to((1 << widths[chosen]) - 1);
     for (place, bit) in (start..start + widths[chosen]).rev().enumerate() {
         let lowest_first = value >> place & 1;
         file[bit / 8] &= !(0x80 >> (bit % 8));

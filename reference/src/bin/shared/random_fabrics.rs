@@ -1,6 +1,6 @@
 //! Random fabrics for the cases.
 
-use reference::packed::{CHECK, HEADER};
+use reference::packed::{CHECK_BYTE, HEADER};
 use reference::random::Random;
 use reference::random_fabric::{random_fabric, Plan};
 use reference::samples::{credit_loops, looped_queues, switch_row};
@@ -51,7 +51,7 @@ pub fn good_fabric(random: &mut Random) -> Fabric {
 pub fn file_or_damaged(random: &mut Random, fabric: &Fabric) -> Vec<u8> {
     let mut file = fabric.to_file();
     match random.below(100) {
-        0..3 => file[CHECK] = random.byte(),
+        0..3 => file[CHECK_BYTE] = random.byte(),
         3..6 => file.truncate(random.below(HEADER)),
         6..8 => file[random.between(1, 2)] = 0,
         8..11 => return with_circles(random).to_file(),
