@@ -15,7 +15,20 @@ use cells::CELL_SIZE;
 use netlist::Size;
 use rules::Channel;
 use rules::Offer;
+use rules::both;
 use rules::byte_of_offer;
+use rules::fork_offer;
+use rules::join_offer;
+use rules::join_take;
+use rules::map_from;
+use rules::merge_offer;
+use rules::merge_take;
+use rules::queue_offer;
+use rules::queue_take;
+use rules::sink_take;
+use rules::source_offer;
+use rules::switch_offer;
+use rules::switch_take;
 
 pub fn bit_of(t: bool) -> u8
     ensures { λ r. ⌜ r ≡ bit t ⌝ }
@@ -62,52 +75,48 @@ pub fn moved_on(signals: &[u8], x: usize) -> u8
     offer * take
 }
 
-// The signal that a rule gives, from its component and the channels at the component's ports: what rules read is read first.
+// The signal that a rule gives, from its component and the channels at the component's ports. Each rule reads what it needs: reading all for each takes a quarter longer.
 fn signal(
     rule: u16,
-    signals: &[u8],
+    s: &[u8],
     table: &[u8],
     k: usize,
     cell: &[u8],
     pick: u8,
-    pa: usize,
-    pb: usize,
-    pc: usize,
+    a: usize,
+    b: usize,
+    c: usize,
 ) -> u8
-    requires { ⌜ Readable rule (now signals) (now table) k (now cell) pick pa pb pc ⌝ }
-    ensures { λ r. ⌜ r ≡ ruleNumbered rule (componentWith (row (now (table .entry)) k) (now (cell .entry)) pick) (seenAt (now (signals .entry)) pa pb pc) ⌝ }
+    requires { ⌜ Readable rule (now s) (now table) k (now cell) pick a b c ⌝ }
+    ensures { λ r. ⌜ r ≡ ruleNumbered rule (componentWith (row (now (table .entry)) k) (now (cell .entry)) pick) (seenAt (now (s .entry)) a b c) ⌝ }
 {
-    let oa = offer_at(signals, pa);
-    let ob = offer_at(signals, pb);
-    let tb = take_at(signals, pb);
-    let tc = take_at(signals, pc);
     match rule {
         // Source.
-        0 => byte_of_offer(rules::source_offer(cell, pick)),
+        0 => byte_of_offer(source_offer(cell, pick)),
         // Sink.
-        3 => bit_of(rules::sink_take(cell, pick)),
+        3 => bit_of(sink_take(cell, pick)),
         // Queue.
-        6 => bit_of(rules::queue_take(table, k, cell)),
-        7 => byte_of_offer(rules::queue_offer(cell)),
+        6 => bit_of(queue_take(table, k, cell)),
+        7 => byte_of_offer(queue_offer(cell)),
         // Function.
-        9 => bit_of(tb),
-        10 => byte_of_offer(rules::map_from(table, k, false, oa)),
+        9 => bit_of(take_at(s, b)),
+        10 => byte_of_offer(map_from(table, k, false, offer_at(s, a))),
         // Fork.
-        12 => bit_of(rules::both(tb, tc)),
-        13 => byte_of_offer(rules::fork_offer(table, k, 1, oa, tb, tc)),
-        14 => byte_of_offer(rules::fork_offer(table, k, 2, oa, tb, tc)),
+        12 => bit_of(both(take_at(s, b), take_at(s, c))),
+        13 => byte_of_offer(fork_offer(table, k, 1, offer_at(s, a), take_at(s, b), take_at(s, c))),
+        14 => byte_of_offer(fork_offer(table, k, 2, offer_at(s, a), take_at(s, b), take_at(s, c))),
         // Join.
-        15 => bit_of(rules::join_take(0, oa, ob, tc)),
-        16 => bit_of(rules::join_take(1, oa, ob, tc)),
-        17 => byte_of_offer(rules::join_offer(table, k, oa, ob)),
+        15 => bit_of(join_take(0, offer_at(s, a), offer_at(s, b), take_at(s, c))),
+        16 => bit_of(join_take(1, offer_at(s, a), offer_at(s, b), take_at(s, c))),
+        17 => byte_of_offer(join_offer(table, k, offer_at(s, a), offer_at(s, b))),
         // Switch.
-        18 => bit_of(rules::switch_take(table, k, oa, tb, tc)),
-        19 => byte_of_offer(rules::switch_offer(table, k, 1, oa)),
-        20 => byte_of_offer(rules::switch_offer(table, k, 2, oa)),
+        18 => bit_of(switch_take(table, k, offer_at(s, a), take_at(s, b), take_at(s, c))),
+        19 => byte_of_offer(switch_offer(table, k, 1, offer_at(s, a))),
+        20 => byte_of_offer(switch_offer(table, k, 2, offer_at(s, a))),
         // Merge.
-        21 => bit_of(rules::merge_take(pick, 0, oa, ob, tc)),
-        22 => bit_of(rules::merge_take(pick, 1, oa, ob, tc)),
-        _ => byte_of_offer(rules::merge_offer(pick, oa, ob)),
+        21 => bit_of(merge_take(pick, 0, offer_at(s, a), offer_at(s, b), take_at(s, c))),
+        22 => bit_of(merge_take(pick, 1, offer_at(s, a), offer_at(s, b), take_at(s, c))),
+        _ => byte_of_offer(merge_offer(pick, offer_at(s, a), offer_at(s, b))),
     }
 }
 
