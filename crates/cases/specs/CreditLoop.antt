@@ -1,12 +1,8 @@
 -- The credit loop, and a fork whose outputs are the two inputs of one join.
 use Prim.Native.Nat.{ℕ}
-use mathlib.Core.List.{List, [], _∷_, _++_}
-use lib.ListN.{replicate}
+use mathlib.Core.List.{List, _++_}
 use Rattle.fabric.specs.PackedFile.{packedFile}
-
--- a row of a fabric of one colour, its maps 0: kind; ports A, B, C; mask, capacity, filling
-abbrev pub line : ℕ → ℕ → ℕ → ℕ → ℕ → ℕ → ℕ → List ℕ
-line kind a b c mask capacity filling = (kind ∷ a ∷ b ∷ c ∷ replicate 16 0) ++ (mask ∷ capacity ∷ filling ∷ 0 ∷ [])
+use Rattle.cases.specs.Rows.{line}
 
 -- C=1, M=6: 0 source out 0; 1 join 0, 1 to 2; 2 queue 2 to 3, capacity 2; 3 fork 3 to 4, 5; 4 sink 4; 5 queue 5 to 1, capacity 2, filling 2.
 unfoldable pub creditTable : List ℕ

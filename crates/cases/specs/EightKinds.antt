@@ -1,13 +1,8 @@
 -- A fabric with all eight kinds and two colours.
 use Prim.Native.Nat.{ℕ}
-use mathlib.Core.List.{List, [], _∷_, _++_}
-use lib.ListN.{replicate}
+use mathlib.Core.List.{List, _++_}
 use Rattle.fabric.specs.PackedFile.{packedFile}
-
--- a row of a fabric of two colours: kind; ports A, B, C; what the first and the second map take 0 and 1 to; mask, capacity, filling, fill colour
-abbrev pub row₂ : ℕ → ℕ → ℕ → ℕ → ℕ → ℕ → ℕ → ℕ → ℕ → ℕ → ℕ → ℕ → List ℕ
-row₂ kind a b c f₀ f₁ s₀ s₁ mask capacity filling colour =
-    (kind ∷ a ∷ b ∷ c ∷ f₀ ∷ f₁ ∷ replicate 6 0) ++ (s₀ ∷ s₁ ∷ replicate 6 0) ++ (mask ∷ capacity ∷ filling ∷ colour ∷ [])
+use Rattle.cases.specs.Rows.{row₂}
 
 -- source to 0; function 0 to 1, the colours swapped; switch 1 to 2, 3; merge 2, 3 to 4; fork 4 to 5, 6; queues 5 to 7 and 6 to 8; join 7, 8 to 9; sink 9
 unfoldable pub eightTable : List ℕ

@@ -1,3 +1,4 @@
+pub mod Rows
 pub mod CreditLoop
 pub mod Starred
 pub mod EightKinds
