@@ -1,46 +1,31 @@
 -- The theorems of specs/Demands.antt. Assumes nothing.
-use mathlib.Core.Path.{_≡_, refl, ap, sym, subst, _∙_}
+use mathlib.Core.Path.{_≡_, ap, sym, subst, _∙_}
 use mathlib.Core.Bool.{Bool, true, false, cond, not}
 use mathlib.Core.List.{List, [], _∷_, _++_}
 use Prim.Native.Nat.{ℕ, _*_, _/_, _%_, _≤_, _<_}
 use native.Mathlib.Omega.{arith}
 use lib.Dec.{ltb, eqb}
 use lib.ListN.{length, drop}
-use lib.IntN.{ℤ, pos, _*ℤ_, zero-*ℤ}
+use lib.IntN.{ℤ}
 use borrow.Author.Tests.{le-ltb, eq-eqb}
-use Rattle.integers.specs.Sum.{sumTo}
-use Rattle.integers.proofs.Sum.{sum-cong}
 use Rattle.refusals.specs.Refusals.{Test, test, firstRefusal}
 use Rattle.refusals.specs.declared.Refusal.the-variants.{StateShort, BadState, ChoiceCount, BadChoice, ResultSpace}
 use Rattle.refusals.specs.declared.Verdict.{Verdict}
 use Rattle.refusals.specs.declared.Verdict.the-variants.{Accepted, Refused}
 use Rattle.refusals.proofs.Refusals.{andThen, refusal-append, then-accepted}
-use Rattle.component.specs.Kind.{isQueue}
-use Rattle.component.specs.Row.{kind}
-use Rattle.component.proofs.ByKind.{is-queue}
-use Rattle.netlist.specs.Netlist.{Netlist, rowOf}
-use Rattle.netlist.specs.Accepted.{AcceptedFabric}
+use Rattle.netlist.specs.Netlist.{Netlist}
 use Rattle.reader.specs.File.{netlistIn, fileTests}
 use Rattle.reader.proofs.Opened.{after-file, rest-of, facts}
 use Rattle.roundtrip.proofs.RoundTrip.{roundTripFile, roundTripTable, writtenAccepted, oneFile, oneTable}
 use Rattle.cells.specs.Good.{Good}
-use Rattle.cells.specs.Choices.{Allowed, badChoice}
-use Rattle.cells.specs.Start.{started}
-use Rattle.cells.specs.Counts.{counts}
+use Rattle.cells.specs.Choices.{badChoice}
 use Rattle.cells.specs.Cells.{cellSize}
 use Rattle.cells.proofs.Good.{good-no-bad}
 use Rattle.cells.proofs.Choices.{allowed-no-bad, steps-no-bad}
-use Rattle.cells.proofs.Counts.{start-counts}
-use Rattle.signals.specs.Signals.{moved}
 use Rattle.signals.proofs.Signals.{value-rule, value-only}
-use Rattle.state.specs.Step.{next}
-use Rattle.flows.specs.Flows.{Cancels, weight, entry, acceptedSum, startCount, constant}
+use Rattle.flows.specs.Flows.{entry, constant}
 use Rattle.flows.specs.Verdict.{judgeTests, judged, constantBy, tableBy, bytesBy}
-use Rattle.flows.proofs.Weights.{weight-other}
 use Rattle.flows.proofs.Exactly.{accepted-cancels, accepted-weighty, accepted-exactly}
-use Rattle.flows.proofs.Steps.{step-constant}
-use Rattle.balance.specs.Balance.{transfer}
-use Rattle.balance.proofs.Holds.{holds}
 use Rattle.verdicts.specs.Tests.{shortState}
 use Rattle.verdicts.specs.Stages.{readyTests}
 use Rattle.stepping.specs.Calls.{startVerdict, stateAfterStart, stepVerdict, runVerdict}
@@ -50,26 +35,10 @@ use Rattle.calls.specs.Calls.{Call, start, step, run, stateAfterAll, verdictOn}
 use Rattle.calls.proofs.Calls.{calls-keep}
 use Rattle.demands.specs.Demands.{ConstantSums, AcceptedExactly, GoodAlways, FilesAndTables, StepSignals, CircleExactly, StepAccepted, RunAccepted, entryOfBytes, entryOf, sumRead, WeightsRead, ConstantSumsRead, ConstantSumsInTable}
 use Rattle.demands.proofs.Chains.{ready-passes, circle-refuses}
+use Rattle.demands.proofs.Sums.{sums-kept}
 use Rattle.demands.proofs.ReadBack.{bytes-back, table-back, sum-is}
 
 -- ---- demand 3
--- the sum at start is the constant
-start-sum : (f : Netlist) (ends order : List ℕ) → AcceptedFabric f ends order → (p s : List ℕ) → acceptedSum f p (counts (started f s)) ≡ constant f p
-unfolding acceptedSum constant
-start-sum f ends order a p s =
-    sum-cong (f .components) (λ q. sumTo (f .colours) (λ d. weight f p q d *ℤ pos (counts (started f s) q d))) (λ q. sumTo (f .colours) (λ d. weight f p q d *ℤ pos (startCount f q d)))
-    (λ q h. sum-cong (f .colours) (λ d. weight f p q d *ℤ pos (counts (started f s) q d)) (λ d. weight f p q d *ℤ pos (startCount f q d)) (λ d l. same q h d (isQueue (kind (rowOf f q))) refl))
-  where
-    same : (q : ℕ) → q < f .components → (d : ℕ) (b : Bool) → isQueue (kind (rowOf f q)) ≡ b → weight f p q d *ℤ pos (counts (started f s) q d) ≡ weight f p q d *ℤ pos (startCount f q d)
-    same q h d true e = ap (λ (n : ℕ). weight f p q d *ℤ pos n) (start-counts f ends order a s q h (is-queue (kind (rowOf f q)) e) d)
-    same q h d false e = ap (λ (w : ℤ). w *ℤ pos (counts (started f s) q d)) (weight-other f p q d e) ∙ zero-*ℤ (pos (counts (started f s) q d)) ∙ sym (ap (λ (w : ℤ). w *ℤ pos (startCount f q d)) (weight-other f p q d e) ∙ zero-*ℤ (pos (startCount f q d)))
-
--- and a step keeps it
-sum-keeps : (f : Netlist) (ends order : List ℕ) → AcceptedFabric f ends order → (p : List ℕ) → Cancels f p → (s ch : List ℕ) → Good f s → Allowed f ch
-    → acceptedSum f p (counts s) ≡ constant f p → acceptedSum f p (counts (next f s ch)) ≡ constant f p
-sum-keeps f ends order a p c s ch g w q =
-    step-constant f (record { ends = ends; order = order; facts = a }) p (transfer (moved f s ch)) (counts s) (counts (next f s ch)) (holds f ends order s ch (record { accepted = a; good = g; allowed = w })) c ∙ q
-
 checked : (file p : List ℕ) (space : ℕ) → checkVerdict file p space ≡ Accepted → judged (netlistIn file) p ≡ Accepted
 unfolding checkVerdict judged
 checked file p space e =
@@ -89,14 +58,7 @@ check-given file p space ok room e =
     rest-of file ok (judgeTests f p ++ last) ∙ refusal-append (judgeTests f p) last ∙ ap (λ (v : Verdict). andThen v (firstRefusal last)) e ∙ rw (le-ltb space (8 * f .components) room)
 
 pub constantSums : ConstantSums
-constantSums file p space accepted state began calls =
-    let f : Netlist = netlistIn file in
-    let ok = started-file file (length state) began in
-    let x = facts file (ok .0) in
-    let a = x .2 in
-    let c = accepted-cancels f p (a .fewColours) (checked file p space accepted) in
-    let r = calls-keep file (λ s. acceptedSum f p (counts s) ≡ constant f p) (λ s l. start-sum f (x .0) (x .1) a p s) (sum-keeps f (x .0) (x .1) a p c) state began calls in
-    r .1 ∙ sym (check-constant-is file p space accepted)
+constantSums file p space accepted state began calls = sums-kept file p (checked file p space accepted) state began calls .1 ∙ sym (check-constant-is file p space accepted)
 
 pub acceptedExactly : AcceptedExactly
 acceptedExactly file p space ok formed room =

@@ -1,3 +1,5 @@
 pub mod Chains
+pub mod Sums
 pub mod ReadBack
 pub mod Demands
+pub mod Ceiling

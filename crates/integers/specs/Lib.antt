@@ -1,2 +1,4 @@
 pub mod Sum
+pub mod Total
+pub mod Sign
 pub mod Tables

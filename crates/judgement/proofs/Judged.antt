@@ -2,7 +2,7 @@
 use mathlib.Core.Path.{_≡_, refl, sym, ap, ap₂, _∙_}
 use mathlib.Core.Bool.{Bool, true, false, cond, not, _&&_, _||_, true≢false}
 use mathlib.Core.List.{List, [], _∷_, _++_}
-use Prim.Native.Nat.{ℕ, _+_, _*_, _/_, _%_, _≤_, _<_}
+use Prim.Native.Nat.{ℕ, _+_, _*_, _/_, _%_, _^_, _≤_, _<_}
 use native.Mathlib.Omega.{arith}
 use lib.Dec.{ltb, eqb}
 use lib.ListN.{length, getD, drop}
@@ -13,6 +13,7 @@ use Rattle.digits.specs.UpTo.{upTo}
 use Rattle.digits.proofs.Least.{least-same}
 use Rattle.digits.proofs.UpTo.{upTo-cong}
 use Rattle.integers.specs.Sum.{sumTo, isZero}
+use Rattle.integers.specs.Tables.{Near}
 use Rattle.integers.proofs.Sum.{sum-cong, sum-only, is-zero}
 use Rattle.refusals.specs.Refusals.{test, firstRefusal}
 use Rattle.refusals.specs.Room.{roomFor}
@@ -20,10 +21,11 @@ use Rattle.refusals.specs.declared.Refusal.{Refusal}
 use Rattle.refusals.specs.declared.Refusal.the-variants.{ProposalLength, NoEquation, FlowLeft, NoWeight, ResultSpace}
 use Rattle.refusals.specs.declared.Verdict.{Verdict}
 use Rattle.refusals.specs.declared.Verdict.the-variants.{Accepted, Refused}
-use Rattle.refusals.proofs.Room.{room-last, room-accepted, room-space}
+use Rattle.refusals.proofs.Room.{room-last, room-accepted, room-space, room-given}
 use Rattle.record.specs.Table.{row}
 use Rattle.component.specs.Kind.{isQueue}
 use Rattle.component.specs.Row.{kindNumber, kind, filling, fillColour}
+use Rattle.component.specs.Limits.{mostEntries}
 use Rattle.component.proofs.ByKind.{row-queue}
 use Rattle.netlist.specs.Netlist.{Netlist, rowOf}
 use Rattle.netlist.specs.Accepted.{AcceptedNetlist}
@@ -90,8 +92,8 @@ module _ (f : Netlist) (h : AcceptedNetlist f) (p : List ℕ) {s w : List ℤ} (
   unfolding isWeight
   weight-is = least-same (notZero w) (isWeight f p) (8 * f .components) (λ u l. ap (λ (z : ℤ). not (isZero z)) (entry-is u l))
 
-  pub all-weighed : Weighed f p w
-  all-weighed = record { long = a .counts .long; at = entry-is }
+  pub all-weighed : Near mostEntries (2 ^ 40) w → Weighed f p w
+  all-weighed near = record { near = near; at = entry-is }
 
   -- a component's share: its weight of its fill colour, times its filling
   share-sum : (q : ℕ) → q < f .components → shareOf (f .table) w q ≡ sumTo (f .colours) (λ d. weight f p q d *ℤ pos (startCount f q d))
@@ -185,6 +187,10 @@ module _ (f : Netlist) (p : List ℕ) (space : ℕ) {v : Verdict} (e : v ≡ jud
   pub within-both : {u : Verdict} {k l : ℤ} → k ≡ constantBy (judged f p) f p → (u ≡ roomFor v space (8 * f .components)) × (l ≡ orZero (roomFor v space (8 * f .components)) k)
       → (u ≡ judgedWithin f p space) × (l ≡ constantBy (judgedWithin f p space) f p)
   within-both d q = (q .0 ∙ within-is, q .1 ∙ within-constant d)
+
+-- with room for all of them: as without
+pub within-given : (f : Netlist) (p : List ℕ) (space : ℕ) → 8 * f .components ≤ space → judgedWithin f p space ≡ judged f p
+within-given f p space h = sym (within-is f p space refl) ∙ room-given (judged f p) space (8 * f .components) h
 
 -- accepted with room: there is room
 pub within-room : (f : Netlist) (p : List ℕ) (space : ℕ) → judgedWithin f p space ≡ Accepted → 8 * f .components ≤ space

@@ -2,13 +2,15 @@
 use mathlib.Core.Path.{_≡_}
 use mathlib.Core.Bool.{Bool, false, cond, not}
 use mathlib.Core.List.{List, [], _∷_, _++_}
-use Prim.Native.Nat.{ℕ, _+_, _*_, _-_, _<_}
+use Prim.Native.Nat.{ℕ, _+_, _*_, _-_, _^_, _<_}
 use lib.Dec.{ltb, eqb}
 use lib.ListN.{length, getD, drop}
 use lib.IntN.{ℤ, pos, _*ℤ_}
 use Rattle.digits.specs.Least.{least}
 use Rattle.digits.specs.UpTo.{upTo}
 use Rattle.integers.specs.Sum.{isZero}
+use Rattle.integers.specs.Tables.{Near}
+use Rattle.integers.specs.Sign.{aboveZero}
 use Rattle.refusals.specs.Refusals.{test, firstRefusal}
 use Rattle.refusals.specs.declared.Refusal.the-variants.{FlowLeft, NoWeight}
 use Rattle.refusals.specs.declared.Verdict.{Verdict}
@@ -43,14 +45,23 @@ abbrev pub orZero : Verdict → ℤ → ℤ
 orZero Accepted k = k
 orZero (Refused r) k = pos 0
 
--- the weights of all queues and colours
+-- the weights of all queues and colours, so near 0 that what is made of them fits
 pub record Weighed (f : Netlist) (p : List ℕ) (w : List ℤ) : Type 0 where
-  pub long : length w ≡ mostEntries
+  pub near : Near mostEntries (2 ^ 40) w
   pub at : (u : ℕ) → u < 8 * f .components → getD w u (pos 0) ≡ entry f p u
+
+-- how far the weight of entry u is above 0; 0 where a verdict refuses, or there is no such entry
+unfoldable pub weightBy : Verdict → Netlist → List ℕ → ℕ → ℕ
+weightBy Accepted f p u = cond (ltb u (8 * f .components)) (aboveZero (entry f p u)) 0
+weightBy (Refused r) f p u = 0
 
 -- lent bytes after a verdict, where they have room for all entries
 unfoldable pub bytesWhere : Verdict → Netlist → List ℕ → List ℕ → List ℕ
 bytesWhere v f p bytes = cond (ltb (length bytes) (8 * (8 * f .components))) bytes (bytesBy v f p bytes)
+
+-- the same where there is no entry u that is asked for; else as they were
+unfoldable pub bytesUnasked : ℕ → Verdict → Netlist → List ℕ → List ℕ → List ℕ
+bytesUnasked u v f p bytes = cond (ltb u (8 * f .components)) bytes (bytesWhere v f p bytes)
 
 -- bytes in which entry u is v
 unfoldable pub laid : List ℕ → ℕ → ℤ → List ℕ

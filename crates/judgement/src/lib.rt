@@ -1,7 +1,7 @@
 // The verdict on a proposal for a fabric that was read: the search for a flow that is left, the weights and the constant.
 ghost use mathlib.Core.Path.{_≡_};
 ghost use Prim.Native.Nat.{_+_, _*_, _%_, _≤_, _<_, _^_};
-ghost use mathlib.Core.Bool.{not, _||_};
+ghost use mathlib.Core.Bool.{cond, not, _||_};
 ghost use mathlib.Core.List.{_++_};
 ghost use lib.Dec.{eqb, ltb};
 ghost use lib.ListN.{length, getD, drop};
@@ -10,6 +10,7 @@ ghost use mir.Syntax.{w64};
 ghost use mir.Val.{ofZ};
 ghost use Rattle.digits.specs.Least.{least};
 ghost use Rattle.digits.specs.UpTo.{upTo};
+ghost use Rattle.integers.specs.Sign.{aboveZero};
 ghost use Rattle.integers.specs.Sum.{sumTo};
 ghost use Rattle.integers.specs.Tables.{Near, Summed};
 ghost use Rattle.refusals.specs.Room.{roomFor};
@@ -22,7 +23,8 @@ ghost use Rattle.netlist.specs.Netlist.{netlistOf};
 ghost use Rattle.netlist.specs.Accepted.{AcceptedNetlist};
 ghost use Rattle.flows.specs.Verdict.{judged, judgedWithin, constantBy, tableBy, byteOf, weightByte};
 ghost use Rattle.flows.specs.Terms.{mostTerms};
-ghost use Rattle.judgement.specs.Judged.{notZero, shareOf, sumsVerdict, orZero, Weighed, bytesWhere, laid};
+ghost use Rattle.headroom.specs.Headroom.{owedOf, owed};
+ghost use Rattle.judgement.specs.Judged.{notZero, shareOf, sumsVerdict, orZero, Weighed, weightBy, bytesWhere, bytesUnasked, laid};
 use component::MOST_ENTRIES;
 use component::MOST_FLOWS;
 use digits::wide;
@@ -117,7 +119,7 @@ fn bad_length(n: usize) -> bool
 }
 
 // The verdict on a proposal, and its weights in memory that comes in as zeros.
-pub fn weigh(table: &[u8], size: Size, proposal: &[u8], w: &mut [i64; MOST_ENTRIES]) -> Judgement
+fn weigh(table: &[u8], size: Size, proposal: &[u8], w: &mut [i64; MOST_ENTRIES]) -> Judgement
     requires { ⌜ AcceptedNetlist (netlistOf size (now table)) ⌝ }
     requires { ⌜ Summed mostEntries (λ u. pos 0) (now w) ⌝ }
     ensures verdict { λ r. ⌜ (r .verdict ≡ judged (netlistOf size (now (table .entry))) (now (proposal .entry)))
@@ -168,7 +170,81 @@ pub fn judge(table: &[u8], size: Size, proposal: &[u8], weights: &mut [i64]) -> 
     }
 }
 
-// The same with room for `space` entries; the weights go into lent bytes, 8 for each, lowest first, where those are long enough.
+// A judgement; and of one entry, how far its weight is above 0 and, where it is, what the weights below 0 come to.
+pub struct Weighing {
+    pub judgement: Judgement,
+    pub weight: usize,
+    pub owed: usize,
+}
+
+fn unasked(j: Judgement) -> Weighing
+    ensures { λ r. ⌜ (r .judgement .verdict ≡ j .verdict) × (r .judgement .constant ≡ j .constant) × (r .weight ≡ 0) × (r .owed ≡ 0) ⌝ }
+{
+    Weighing {
+        judgement: j,
+        weight: 0,
+        owed: 0,
+    }
+}
+
+fn asked(j: Judgement, w: &[i64; MOST_ENTRIES], table: &[u8], size: Size, u: usize) -> Weighing
+    requires { ⌜ AcceptedNetlist (netlistOf size (now table)) ⌝ }
+    requires { ⌜ Near mostEntries (2 ^ 40) (now w) × (u < mostEntries) ⌝ }
+    ensures { λ r. ⌜ (r .judgement .verdict ≡ j .verdict) × (r .judgement .constant ≡ j .constant)
+        × (r .weight ≡ aboveZero (getD (now (w .entry)) u (pos 0)))
+        × (r .owed ≡ cond (eqb (r .weight) 0) 0 (owedOf (netlistOf size (now (table .entry))) (λ q d. getD (now (w .entry)) (8 * q + d) (pos 0)))) ⌝ }
+    ensures near { λ r. ⌜ r .owed ≤ 2 ^ 58 ⌝ }
+{
+    let k = headroom::above_zero(w[u]);
+    if k == 0 {
+        return unasked(j);
+    }
+    Weighing {
+        judgement: j,
+        weight: k,
+        owed: headroom::owed_by_all(w, table, size),
+    }
+}
+
+// The judgement with room for `space` entries. Entry u is asked for; if there is none, the weights go into lent bytes instead, 8 for each,
+// lowest first, where those are long enough. So the weights stand in this frame alone, and no frame that reads a file holds them.
+pub fn judge_entry(
+    table: &[u8],
+    size: Size,
+    proposal: &[u8],
+    space: usize,
+    out: &mut [u8],
+    u: usize,
+) -> Weighing
+    requires { ⌜ AcceptedNetlist (netlistOf size (now table)) ⌝ }
+    ensures { λ r. ⌜ (r .judgement .verdict ≡ judgedWithin (netlistOf size (now (table .entry))) (now (proposal .entry)) space)
+        × (r .judgement .constant ≡ constantBy (judgedWithin (netlistOf size (now (table .entry))) (now (proposal .entry)) space) (netlistOf size (now (table .entry))) (now (proposal .entry)))
+        × (now (out .exit) ≡ bytesUnasked u (judgedWithin (netlistOf size (now (table .entry))) (now (proposal .entry)) space) (netlistOf size (now (table .entry))) (now (proposal .entry)) (now (out .entry)))
+        × (r .weight ≡ weightBy (judgedWithin (netlistOf size (now (table .entry))) (now (proposal .entry)) space) (netlistOf size (now (table .entry))) (now (proposal .entry)) u)
+        × (r .owed ≡ cond (eqb (r .weight) 0) 0 (owed (netlistOf size (now (table .entry))) (now (proposal .entry)))) ⌝ }
+    ensures near { λ r. ⌜ r .owed ≤ 2 ^ 58 ⌝ }
+{
+    let mut w = [0i64; MOST_ENTRIES];
+    let j = weigh(table, size, proposal, &mut w);
+    let n = 8 * size.components;
+    let judged = with_room(j, space, n);
+    let found = judged.verdict;
+    match found {
+        Verdict::Refused(_r) => unasked(judged),
+        Verdict::Accepted => {
+            if u < n {
+                return asked(judged, &w, table, size, u);
+            }
+            if out.len() < 8 * n {
+                return unasked(judged);
+            }
+            write_bytes(&mut *out, &w, n);
+            unasked(judged)
+        }
+    }
+}
+
+// The same, and no entry is asked for.
 pub fn judge_bytes(
     table: &[u8],
     size: Size,
@@ -181,21 +257,7 @@ pub fn judge_bytes(
         × (r .constant ≡ constantBy (judgedWithin (netlistOf size (now (table .entry))) (now (proposal .entry)) space) (netlistOf size (now (table .entry))) (now (proposal .entry)))
         × (now (out .exit) ≡ bytesWhere (judgedWithin (netlistOf size (now (table .entry))) (now (proposal .entry)) space) (netlistOf size (now (table .entry))) (now (proposal .entry)) (now (out .entry))) ⌝ }
 {
-    let mut w = [0i64; MOST_ENTRIES];
-    let j = weigh(table, size, proposal, &mut w);
-    let n = 8 * size.components;
-    let judged = with_room(j, space, n);
-    let found = judged.verdict;
-    match found {
-        Verdict::Refused(_r) => judged,
-        Verdict::Accepted => {
-            if out.len() < 8 * n {
-                return judged;
-            }
-            write_bytes(&mut *out, &w, n);
-            judged
-        }
-    }
+    judge_entry(table, size, proposal, space, &mut *out, MOST_ENTRIES).judgement
 }
 
 // The first n entries into a lent table.

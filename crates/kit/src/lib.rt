@@ -7,6 +7,7 @@ ghost use Rattle.reader.specs.Reading.{verdictOf, coloursOf, channelsOf};
 ghost use Rattle.fabric.specs.Calls.{unpacked, unpackedTable, packed, packedInto};
 ghost use Rattle.stepping.specs.Calls.{startVerdict, stateAfterStart, stepVerdict, stateAfterStep, movesAfterStep, runVerdict, stateAfterRun};
 ghost use Rattle.checking.specs.Check.{checkVerdict, checkConstant, bytesAfterCheck};
+ghost use Rattle.ceiling.specs.Ceiling.{ceilingVerdict, ceilingValue};
 
 #[no_mangle]
 pub extern "C" fn fabric_unpack(file: &[u8], table: &mut [u8]) -> u32
@@ -130,4 +131,39 @@ pub extern "C" fn fabric_check_constant(fabric: &[u8], proposal: &[u8], weights:
     ensures { λ r. ⌜ r ≡ checkConstant (now (fabric .entry)) (now (proposal .entry)) (length (now (weights .entry)) / 8) ⌝ }
 {
     checking::check_answer(fabric, proposal, weights.len() / 8).constant
+}
+
+#[no_mangle]
+pub extern "C" fn fabric_ceiling(fabric: &[u8], proposal: &[u8], queue: u64, colour: u64) -> u32
+    ensures { λ r. ⌜ r ≡ numberOf (ceilingVerdict (now (fabric .entry)) (now (proposal .entry)) queue colour) ⌝ }
+{
+    let bound = ceiling::ceiling(fabric, proposal, queue, colour);
+    let v = bound.verdict;
+    refusals::number_of(v)
+}
+
+#[no_mangle]
+pub extern "C" fn fabric_ceiling_place(
+    fabric: &[u8],
+    proposal: &[u8],
+    queue: u64,
+    colour: u64,
+) -> u64
+    ensures { λ r. ⌜ r ≡ placeOf (ceilingVerdict (now (fabric .entry)) (now (proposal .entry)) queue colour) ⌝ }
+{
+    let bound = ceiling::ceiling(fabric, proposal, queue, colour);
+    let v = bound.verdict;
+    refusals::place_of(v) as u64
+}
+
+#[no_mangle]
+pub extern "C" fn fabric_ceiling_value(
+    fabric: &[u8],
+    proposal: &[u8],
+    queue: u64,
+    colour: u64,
+) -> u64
+    ensures { λ r. ⌜ r ≡ ceilingValue (now (fabric .entry)) (now (proposal .entry)) queue colour ⌝ }
+{
+    ceiling::ceiling(fabric, proposal, queue, colour).ceiling as u64
 }

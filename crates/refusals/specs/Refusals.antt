@@ -3,7 +3,7 @@ use Prim.Native.Nat.{ℕ}
 use mathlib.Core.Bool.{Bool, cond}
 use mathlib.Core.List.{List, [], _∷_}
 use Rattle.refusals.specs.declared.Refusal.{Refusal}
-use Rattle.refusals.specs.declared.Refusal.the-variants.{FileShort, WrongEdition, CountRange, WrongLength, ByteSum, BadField, ChannelEnds, Circle, ChoiceCount, BadChoice, ProposalLength, NoEquation, FlowLeft, NoWeight, StateShort, BadState, ResultSpace}
+use Rattle.refusals.specs.declared.Refusal.the-variants.{FileShort, WrongEdition, CountRange, WrongLength, ByteSum, BadField, ChannelEnds, Circle, ChoiceCount, BadChoice, ProposalLength, NoEquation, FlowLeft, NoWeight, StateShort, BadState, ResultSpace, NotAQueue, WeightNotPositive}
 use Rattle.refusals.specs.declared.Verdict.{Verdict}
 use Rattle.refusals.specs.declared.Verdict.the-variants.{Accepted, Refused}
 
@@ -25,6 +25,8 @@ refusalNumber NoWeight = 14
 refusalNumber StateShort = 21
 refusalNumber (BadState k) = 22
 refusalNumber ResultSpace = 23
+refusalNumber NotAQueue = 31
+refusalNumber WeightNotPositive = 32
 
 abbrev pub refusalPlace : Refusal → ℕ
 refusalPlace FileShort = 0
@@ -44,6 +46,8 @@ refusalPlace NoWeight = 0
 refusalPlace StateShort = 0
 refusalPlace (BadState k) = k
 refusalPlace ResultSpace = 0
+refusalPlace NotAQueue = 0
+refusalPlace WeightNotPositive = 0
 
 -- Success is 0 with place 0.
 abbrev pub numberOf : Verdict → ℕ

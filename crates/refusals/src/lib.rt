@@ -22,6 +22,8 @@ pub enum Refusal {
     StateShort,
     BadState(usize),
     ResultSpace,
+    NotAQueue,
+    WeightNotPositive,
 }
 
 // What a call comes to.
@@ -51,6 +53,8 @@ fn refusal_number(r: Refusal) -> u32
         Refusal::StateShort => 21,
         Refusal::BadState(_) => 22,
         Refusal::ResultSpace => 23,
+        Refusal::NotAQueue => 31,
+        Refusal::WeightNotPositive => 32,
     }
 }
 
@@ -75,6 +79,8 @@ fn refusal_place(r: Refusal) -> usize
         Refusal::StateShort => 0,
         Refusal::BadState(k) => k,
         Refusal::ResultSpace => 0,
+        Refusal::NotAQueue => 0,
+        Refusal::WeightNotPositive => 0,
     }
 }
 

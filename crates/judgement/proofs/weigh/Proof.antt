@@ -65,7 +65,7 @@ returns-3 c =
     let ok = c .before .before .before .enum-told .given .1 in
     let a = c .before .before .before .before .before .add-terms .ensures .1 ok in
     let v = sums-judged f (b .pre .0) p a short (sym ok ∙ c .before .before .before .before .before .add-terms .ensures .0) in
-    ((c .judge-sums .ensures .0 ∙ v, c .judge-sums .ensures .1 ∙ sums-constant f (b .pre .0) p a v), (λ x. all-weighed f (b .pre .0) p a))
+    ((c .judge-sums .ensures .0 ∙ v, c .judge-sums .ensures .1 ∙ sums-constant f (b .pre .0) p a v), (λ x. all-weighed f (b .pre .0) p a (counts-near f (b .pre .0) p (omega (arith, length-short p short)) a)))
 
 pub weigh-spec : {M : Type 1} → statement M
 weigh-spec =
