@@ -1,4 +1,5 @@
-/* Prints how many bytes of stack each call touches at most, and fails where one takes 64 KiB or more, or a check 48 KiB. Three fabrics:
+/* Prints how many bytes of stack each call touches at most, and fails where one takes 64 KiB or more, or a check or ceiling 48 KiB.
+ * Three fabrics:
  *
  * - the credit loop;
  * - a chain of 125 functions into a switch, the deepest that we know of those that are accepted: each take depends on the next, the
@@ -19,7 +20,7 @@ static uint8_t table[24 * 128], file[4 + 13 * 128], state[64 * 128], choices[128
 static const uint8_t *proposal;
 static size_t rows, file_len, proposal_len;
 static uint64_t channels;
-static uint32_t number, check_number; /* what each call is to answer, and what check is to */
+static uint32_t number, check_number; /* what each call is to answer, and what check and ceiling are to */
 
 static void row(uint8_t kind, uint8_t a, uint8_t b, uint8_t c, uint8_t mask, uint8_t capacity, uint8_t filling)
 {
@@ -109,17 +110,26 @@ CALL(run_place, fabric_run_place(file, file_len, state, sizeof state, choices, r
 CALL(check, answers(fabric_check(file, file_len, proposal, proposal_len, weights, sizeof weights), check_number))
 CALL(check_place, fabric_check_place(file, file_len, proposal, proposal_len, weights, sizeof weights))
 CALL(check_constant, fabric_check_constant(file, file_len, proposal, proposal_len, weights, sizeof weights))
+CALL(ceiling, answers(fabric_ceiling(file, file_len, proposal, proposal_len, 2, 0), check_number))
+CALL(ceiling_place, fabric_ceiling_place(file, file_len, proposal, proposal_len, 2, 0))
+CALL(ceiling_value, fabric_ceiling_value(file, file_len, proposal, proposal_len, 2, 0))
 
 static const struct {
     const char *name;
     void *(*call)(void *);
 } calls[] = {
-    {"unpack", unpack}, {"unpack_place", unpack_place}, {"unpack_colours", unpack_colours}, {"unpack_channels", unpack_channels},
-    {"pack", pack},     {"pack_place", pack_place},     {"start", start},                   {"start_place", start_place},
-    {"step", step},     {"step_place", step_place},     {"run", run},                       {"run_place", run_place},
-    {"check", check},   {"check_place", check_place},   {"check_constant", check_constant},
+    {"unpack", unpack},   {"unpack_place", unpack_place},   {"unpack_colours", unpack_colours}, {"unpack_channels", unpack_channels},
+    {"pack", pack},       {"pack_place", pack_place},       {"start", start},                   {"start_place", start_place},
+    {"step", step},       {"step_place", step_place},       {"run", run},                       {"run_place", run_place},
+    {"check", check},     {"check_place", check_place},     {"check_constant", check_constant},
+    {"ceiling", ceiling}, {"ceiling_place", ceiling_place}, {"ceiling_value", ceiling_value},
 };
 enum { CALLS = sizeof calls / sizeof calls[0] };
+
+static size_t limit_of(const char *name)
+{
+    return strncmp(name, "check", 5) == 0 || strncmp(name, "ceiling", 7) == 0 ? CHECK_LIMIT : LIMIT;
+}
 
 static size_t touched(void *(*call)(void *))
 {
@@ -163,12 +173,12 @@ int main(void)
     measure(circle, deepest);
     printf("%-16s %12s %12s %12s\n", "bytes of stack", "credit loop", "chain", "circle");
     for (size_t i = 0; i < CALLS; i++) {
-        size_t limit = strncmp(calls[i].name, "check", 5) == 0 ? CHECK_LIMIT : LIMIT;
+        size_t limit = limit_of(calls[i].name);
         printf("%-16s %12zu %12zu %12zu\n", calls[i].name, loop[i], deep[i], deepest[i]);
         within = within && loop[i] < limit && deep[i] < limit && deepest[i] < limit;
     }
     printf("a call of the walk takes %zu, and it goes %d deep in the chain, %d in the circle\n", (deepest[0] - deep[0]) / (CIRCLE_DEEP - CHAIN_DEEP),
            CHAIN_DEEP, CIRCLE_DEEP);
-    printf(within ? "each below %d, each check below %d\n" : "above %d, or a check above %d\n", LIMIT, CHECK_LIMIT);
+    printf(within ? "each below %d, each check and ceiling below %d\n" : "above %d, or a check or ceiling above %d\n", LIMIT, CHECK_LIMIT);
     return within ? 0 : 1;
 }

@@ -37,6 +37,8 @@
  *   21  state shorter than 64 N
  *   22  the state is not good                         place: the lowest such component
  *   23  the space for the result is short
+ *   31  the component is no queue, or the colour is not below C
+ *   32  the weight of that queue and colour is not above 0
  */
 #ifndef FABRIC_H
 #define FABRIC_H
@@ -107,6 +109,20 @@ uint64_t fabric_check_place(const uint8_t *fabric, size_t fabric_len, const uint
                             const uint8_t *weights, size_t weights_len);
 int64_t fabric_check_constant(const uint8_t *fabric, size_t fabric_len, const uint8_t *proposal, size_t proposal_len,
                               const uint8_t *weights, size_t weights_len);
+
+/* Works out the ceiling for a queue and a colour, from a proposal in which their weight is above 0: K, and each weight below 0, sign
+ * dropped, times its queue's capacity, added up and divided by that weight, rounding down; or the queue's capacity if that is smaller.
+ * No run from start puts more of that colour there: wherever, as said for check, the sum equals K, n(queue,colour) is at most the
+ * ceiling. Only the fabric and the proposal are read. Queue and colour are never cut: component 258 is no component 2.
+ * Refusals in this order: 1 2 3 4 5 6 7 8 11 12 13 14 31 32. */
+uint32_t fabric_ceiling(const uint8_t *fabric, size_t fabric_len, const uint8_t *proposal, size_t proposal_len, uint64_t queue,
+                        uint64_t colour);
+
+/* Sister calls: the place of the refusal; the ceiling, 0 if refused. */
+uint64_t fabric_ceiling_place(const uint8_t *fabric, size_t fabric_len, const uint8_t *proposal, size_t proposal_len, uint64_t queue,
+                              uint64_t colour);
+uint64_t fabric_ceiling_value(const uint8_t *fabric, size_t fabric_len, const uint8_t *proposal, size_t proposal_len, uint64_t queue,
+                              uint64_t colour);
 
 #ifdef __cplusplus
 }

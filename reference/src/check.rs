@@ -5,7 +5,7 @@ use crate::equations::equation;
 use crate::fabric::Fabric;
 use crate::packed::read_file;
 use crate::refusal::Refusal;
-use crate::state::{content, ComponentState};
+use crate::state::{count_of, ComponentState};
 use crate::terms::read_proposal;
 
 /// How many bytes a weight takes, lowest first.
@@ -36,23 +36,28 @@ pub struct Sum {
 }
 
 impl Sum {
-    /// Weight times n(q,d), added up over all queues and colours; n(q,d) is the count of d among the
-    /// first colours of q, as many as byte 0 of q says.
+    /// Each component and colour with its weight, ascending.
+    pub fn entries(&self) -> impl Iterator<Item = (usize, usize, i64)> + '_ {
+        let entries = self.weights.iter().enumerate();
+        entries.map(|(entry, &weight)| (entry / MOST_COLOURS, entry % MOST_COLOURS, weight))
+    }
+
+    /// Weight times n(q,d), added up over all queues and colours.
     pub fn value(&self, states: &[ComponentState]) -> i64 {
-        let mut value = 0;
-        for (entry, weight) in self.weights.iter().enumerate() {
-            let (q, d) = (entry / MOST_COLOURS, entry % MOST_COLOURS);
-            let queued = content(&states[q]).iter();
-            let count = queued.filter(|&&colour| usize::from(colour) == d).count();
-            value += weight * count as i64;
-        }
-        value
+        let products = self
+            .entries()
+            .map(|(q, d, weight)| weight * count_of(&states[q], d) as i64);
+        products.sum()
     }
 }
 
 /// Refusals 1 to 8 and 11 to 14, in this order.
 pub fn accepted_sum(file: &[u8], proposal: &[u8]) -> Result<Sum, Refusal> {
-    let fabric = read_file(file)?;
+    judged(&read_file(file)?, proposal)
+}
+
+/// Refusals 11 to 14, in this order.
+pub fn judged(fabric: &Fabric, proposal: &[u8]) -> Result<Sum, Refusal> {
     let mut flows = vec![0; MOST_COLOURS * fabric.channels];
     let mut weights = vec![0; MOST_COLOURS * fabric.components.len()];
     for (place, term) in read_proposal(proposal)?.enumerate() {
@@ -74,7 +79,7 @@ pub fn accepted_sum(file: &[u8], proposal: &[u8]) -> Result<Sum, Refusal> {
     if weights.iter().all(|&weight| weight == 0) {
         return Err(Refusal::NoWeight);
     }
-    let constant = constant(&fabric, &weights);
+    let constant = constant(fabric, &weights);
     Ok(Sum { weights, constant })
 }
 

@@ -1,10 +1,11 @@
 //! The second program of the panel fabric checker: its document in plain Rust.
 //!
 //! The calls on files are `unpack` and `pack`, those on a state `start`, `step` and `run`, and
-//! `check` judges a proposed sum. Every call answers with a `Result`; a `Refusal` knows its number
-//! and its place.
+//! `check` judges a proposed sum, from which `ceiling` works out the most that a queue can hold of
+//! a colour. Every call answers with a `Result`; a `Refusal` knows its number and its place.
 
 // The document's rules and calls.
+pub mod ceiling;
 pub mod channel_ends;
 pub mod check;
 pub mod choices;
@@ -37,6 +38,7 @@ pub mod samples;
 #[cfg(test)]
 mod tests;
 
+pub use ceiling::ceiling;
 pub use check::check;
 pub use component::{Component, Kind};
 pub use fabric::Fabric;

@@ -3,7 +3,6 @@
 use std::fmt::Write;
 
 use crate::check::{accepted_sum, Sum};
-use crate::component::MOST_COLOURS;
 
 const FABRIC_READ: usize = 1669;
 const PROOF_READ: usize = 16385;
@@ -21,8 +20,7 @@ pub fn listing(fabric: &[u8], proof: &[u8]) -> String {
 impl Sum {
     pub fn listing(&self) -> String {
         let mut text = String::new();
-        for (entry, weight) in self.weights.iter().enumerate().filter(|(_, &w)| w != 0) {
-            let (component, colour) = (entry / MOST_COLOURS, entry % MOST_COLOURS);
+        for (component, colour, weight) in self.entries().filter(|&(_, _, weight)| weight != 0) {
             writeln!(text, "Q {component} {colour} {weight}").expect("a string takes all");
         }
         text + &format!("SUM {}\n", self.constant)

@@ -36,6 +36,10 @@ pub enum Refusal {
     BadState { component: usize },
     /// Result space short.
     ResultSpace,
+    /// Not a queue, or colour not below C.
+    NotAQueue,
+    /// Weight not above 0.
+    WeightNotPositive,
 }
 
 impl Refusal {
@@ -58,6 +62,8 @@ impl Refusal {
             Refusal::StateShort => 21,
             Refusal::BadState { .. } => 22,
             Refusal::ResultSpace => 23,
+            Refusal::NotAQueue => 31,
+            Refusal::WeightNotPositive => 32,
         }
     }
 

@@ -56,6 +56,12 @@ pub fn content(queue: &ComponentState) -> &[u8] {
     &queue[1..][..usize::from(queue[0])]
 }
 
+/// n(q,d): the count of d among the first colours of q, as many as byte 0 of q says.
+pub fn count_of(queue: &ComponentState, d: usize) -> usize {
+    let queued = content(queue).iter();
+    queued.filter(|&&colour| usize::from(colour) == d).count()
+}
+
 fn queue_state(colours: &[u8]) -> ComponentState {
     let mut state = [0; COMPONENT_STATE];
     state[0] = colours.len() as u8;

@@ -1,5 +1,6 @@
 //! The document's cases, and some around them.
 
+mod ceiling;
 mod choices;
 mod circles;
 mod credit_loop;
@@ -9,6 +10,7 @@ mod kinds;
 mod layout;
 mod listing;
 mod order;
+mod order_of_ceiling;
 mod order_of_check;
 mod order_of_step;
 mod panels;
@@ -107,6 +109,17 @@ fn check_answer(fabric: &Fabric, terms: &[Term]) -> (u32, u64) {
         &write_proposal(terms),
         &mut weights,
     ))
+}
+
+/// The ceiling, or number and place of the refusal.
+fn ceiling_answer(
+    fabric: &Fabric,
+    terms: &[Term],
+    queue: u64,
+    colour: u64,
+) -> Result<u64, (u32, u64)> {
+    let answer = crate::ceiling(&fabric.to_file(), &write_proposal(terms), queue, colour);
+    answer.map_err(|_| number_and_place(&answer))
 }
 
 fn term(component: usize, index: usize, multiplier: i64) -> Term {

@@ -1,16 +1,13 @@
-//! Times start, step, run and check.
+//! Times start, step and run.
 
 use std::hint::black_box;
 
-use reference::check::{accepted_sum, weights_length};
 use reference::random::Random;
-use reference::random_proposal::Equations;
 use reference::random_state::random_choices;
 use reference::state::COMPONENT_STATE;
-use reference::terms::write_proposal;
-use reference::{check, run, start, step, Fabric};
+use reference::{run, start, step, Fabric};
 
-use crate::library::{fabric_check, fabric_run, fabric_start, fabric_step};
+use crate::library::{fabric_run, fabric_start, fabric_step};
 use crate::timing::{time_alternately, Times};
 
 const STEPS: usize = 100;
@@ -20,26 +17,6 @@ pub fn time_all(fabric: &Fabric, mut report: impl FnMut(&str, Times)) {
     report("start", time_start(fabric));
     report("step", time_step(fabric, random));
     report(&format!("run of {STEPS} steps"), time_run(fabric, random));
-    let file = fabric.to_file();
-    for (size, proposal) in proposals(fabric, random) {
-        if accepted_sum(&file, &proposal).is_ok() {
-            let call = format!("check, {size} terms");
-            report(&call, time_check(fabric, &proposal));
-        }
-    }
-}
-
-/// The shortest and the longest of some proposals in which all flows cancel.
-fn proposals(fabric: &Fabric, random: &mut Random) -> Vec<(usize, Vec<u8>)> {
-    let equations = Equations::of(fabric);
-    let mut found: Vec<_> = (0..50)
-        .map(|_| equations.cancelling_terms(random))
-        .map(|terms| (terms.len(), write_proposal(&terms)))
-        .collect();
-    found.sort();
-    let longest = found.pop();
-    found.truncate(1);
-    found.into_iter().chain(longest).collect()
 }
 
 fn time_start(fabric: &Fabric) -> Times {
@@ -111,27 +88,6 @@ fn time_run(fabric: &Fabric, random: &mut Random) -> Times {
             ) == 0
         },
         || run(black_box(&file), &mut second_state, &choices).is_ok(),
-    )
-}
-
-fn time_check(fabric: &Fabric, proposal: &[u8]) -> Times {
-    let file = fabric.to_file();
-    let mut weights = vec![0; weights_length(fabric.components.len())];
-    let mut second_weights = weights.clone();
-    time_alternately(
-        || unsafe {
-            let proposal = black_box(proposal);
-            let (weights, weights_len) = (weights.as_mut_ptr(), weights.len());
-            fabric_check(
-                file.as_ptr(),
-                file.len(),
-                proposal.as_ptr(),
-                proposal.len(),
-                weights,
-                weights_len,
-            ) == 0
-        },
-        || check(&file, black_box(proposal), &mut second_weights).is_ok(),
     )
 }
 

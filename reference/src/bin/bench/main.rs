@@ -4,6 +4,7 @@ mod fabric_calls;
 mod file_calls;
 #[path = "../shared/library.rs"]
 mod library;
+mod sum_calls;
 mod timing;
 
 use reference::random::Random;
@@ -23,6 +24,7 @@ fn main() {
         report(&name, "unpack", time_unpack(&fabric));
         report(&name, "pack", time_pack(&fabric));
         fabric_calls::time_all(&fabric, |call, times| report(&name, call, times));
+        sum_calls::time_all(&fabric, |call, times| report(&name, call, times));
     }
 }
 

@@ -13,6 +13,7 @@ pub struct Answer {
     pub colours: u64,
     pub channels: u64,
     pub constant: i64,
+    pub ceiling: u64,
 }
 
 impl Answer {
@@ -31,6 +32,7 @@ impl Answer {
         same("place", self.place, second.place)?;
         same("colours", self.colours, second.colours)?;
         same("channels", self.channels, second.channels)?;
-        same("constant", self.constant, second.constant)
+        same("constant", self.constant, second.constant)?;
+        same("ceiling", self.ceiling, second.ceiling)
     }
 }

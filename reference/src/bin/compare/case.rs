@@ -13,6 +13,7 @@ pub enum Call {
     Step,
     Run,
     Check,
+    Ceiling { queue: u64, colour: u64 },
 }
 
 /// What a part of the memory holds before a call, and where its guard page lies.
@@ -74,6 +75,8 @@ pub enum Expected {
     },
     /// Accepted, with weights and a constant that the listing program prints so.
     Listing(String),
+    /// Accepted, with this ceiling.
+    Ceiling(u64),
 }
 
 impl Expected {

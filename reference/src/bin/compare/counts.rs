@@ -5,13 +5,17 @@ use std::fmt;
 use crate::case::Call;
 
 /// Each call with the numbers it can come to, in the order of its tests.
-const CALLS: [(&str, &[u32]); 6] = [
+const CALLS: [(&str, &[u32]); 7] = [
     ("unpack", &[0, 1, 2, 3, 4, 5, 6, 7, 8, 23]),
     ("pack", &[0, 4, 3, 6, 7, 8, 23]),
     ("start", &[0, 1, 2, 3, 4, 5, 6, 7, 8, 21]),
     ("step", &[0, 1, 2, 3, 4, 5, 6, 7, 8, 21, 22, 9, 10, 23]),
     ("run", &[0, 1, 2, 3, 4, 5, 6, 7, 8, 21, 22, 9, 10]),
     ("check", &[0, 1, 2, 3, 4, 5, 6, 7, 8, 11, 12, 13, 14, 23]),
+    (
+        "ceiling",
+        &[0, 1, 2, 3, 4, 5, 6, 7, 8, 11, 12, 13, 14, 31, 32],
+    ),
 ];
 
 fn column(call: Call) -> usize {
@@ -22,19 +26,25 @@ fn column(call: Call) -> usize {
         Call::Step => 3,
         Call::Run => 4,
         Call::Check => 5,
+        Call::Ceiling { .. } => 6,
     }
 }
 
-const HIGHEST: usize = 23;
+const HIGHEST: usize = 32;
 
 type Reached = [u64; HIGHEST + 1];
 
-#[derive(Default)]
 pub struct Counts {
     reached: [Reached; CALLS.len()],
 }
 
 impl Counts {
+    pub fn new() -> Counts {
+        Counts {
+            reached: [[0; HIGHEST + 1]; CALLS.len()],
+        }
+    }
+
     pub fn add(&mut self, call: Call, number: u32) {
         self.reached[column(call)][number as usize] += 1;
     }

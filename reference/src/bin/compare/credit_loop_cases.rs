@@ -6,7 +6,7 @@ use reference::terms::{write_proposal, Term};
 use crate::case::{Call, Case, Expected, Lent, LentCall};
 
 const LISTING: &str = "Q 2 0 1\nQ 5 0 1\nSUM 2\n";
-const SOURCE_CHOOSES: [u8; 6] = [1, 0, 0, 0, 0, 0];
+pub const SOURCE_CHOOSES: [u8; 6] = [1, 0, 0, 0, 0, 0];
 const SINK_CHOOSES: [u8; 6] = [0, 0, 0, 0, 1, 0];
 const NO_SUCH_CHOICE: [u8; 6] = [2, 0, 0, 0, 0, 0];
 
@@ -45,7 +45,7 @@ pub fn credit_loop_cases() -> Vec<Case> {
     ]
 }
 
-fn case(calls: Vec<LentCall>) -> Case {
+pub fn case(calls: Vec<LentCall>) -> Case {
     Case {
         fabric: Lent::new(credit_loop().to_file()),
         state: Lent::new(vec![0xA5; 64 * 6]),
@@ -54,7 +54,7 @@ fn case(calls: Vec<LentCall>) -> Case {
     }
 }
 
-fn accepted_step(choices: [u8; 6], moves: [u8; 6], first_bytes: [u8; 6]) -> LentCall {
+pub fn accepted_step(choices: [u8; 6], moves: [u8; 6], first_bytes: [u8; 6]) -> LentCall {
     let expected = Expected::Step {
         moves: moves.to_vec(),
         first_bytes: first_bytes.to_vec(),

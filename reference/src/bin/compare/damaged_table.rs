@@ -6,6 +6,7 @@ use reference::random::Random;
 use crate::case::Call;
 use crate::damaged_file::damage_count;
 use crate::random_fabrics::random_or_damaged_fabric;
+use crate::wild_number::wild_number;
 
 /// Values around the ends of the fields' ranges.
 const EDGES: [u8; 14] = [0, 1, 2, 7, 8, 9, 16, 62, 63, 64, 66, 127, 128, 255];
@@ -70,16 +71,4 @@ fn damage_length(random: &mut Random, table: &mut Vec<u8>) {
         _ => random.between(0, len),
     };
     table.resize(changed, 0);
-}
-
-/// Any number of 64 bits, often one that is right in its lowest bits.
-fn wild_number(random: &mut Random, right: u64) -> u64 {
-    match random.below(6) {
-        0 => random.pick(&[0, 9, 255, 256, 257, (1 << 32) + 1, u64::MAX]),
-        1 => right + (1 << random.pick(&[3, 8, 16, 32, 63])),
-        2 => right.wrapping_neg(),
-        3 => right.wrapping_sub(1),
-        4 => right + 1,
-        _ => random.any(),
-    }
 }

@@ -11,6 +11,7 @@ use reference::terms::{write_proposal, Term, MOST_TERMS, MULTIPLIER_BOUND};
 use reference::Fabric;
 
 use crate::case::{Call, Case, Expected, Lent, LentCall};
+use crate::ceiling_cases::ceiling_cases;
 use crate::credit_loop_cases::credit_loop_cases;
 use crate::panel_cases::panel_cases;
 use crate::random_lists::long_run;
@@ -18,6 +19,7 @@ use crate::random_lists::long_run;
 pub fn fixed_cases() -> Vec<Case> {
     let mut cases = file_cases();
     cases.extend(credit_loop_cases());
+    cases.extend(ceiling_cases());
     cases.extend(panel_cases());
     cases.push(heaviest_sum());
     cases.extend(long_runs());

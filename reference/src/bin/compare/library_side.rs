@@ -4,12 +4,12 @@ use crate::answer::Answer;
 use crate::case::Call;
 use crate::lent_memory::LentMemory;
 use crate::library::{
-    fabric_check, fabric_pack, fabric_run, fabric_start, fabric_step, fabric_unpack,
+    fabric_ceiling, fabric_check, fabric_pack, fabric_run, fabric_start, fabric_step, fabric_unpack,
 };
 use crate::sisters::{
-    fabric_check_constant, fabric_check_place, fabric_pack_place, fabric_run_place,
-    fabric_start_place, fabric_step_place, fabric_unpack_channels, fabric_unpack_colours,
-    fabric_unpack_place,
+    fabric_ceiling_place, fabric_ceiling_value, fabric_check_constant, fabric_check_place,
+    fabric_pack_place, fabric_run_place, fabric_start_place, fabric_step_place,
+    fabric_unpack_channels, fabric_unpack_colours, fabric_unpack_place,
 };
 use crate::trial::PARTS;
 
@@ -38,6 +38,11 @@ pub fn sisters(call: Call, parts: &[LentMemory; PARTS]) -> Answer {
                     fabric_check_constant(fabric, fabric_len, given, given_len, result, result_len);
                 fabric_check_place(fabric, fabric_len, given, given_len, result, result_len)
             }
+            Call::Ceiling { queue, colour } => {
+                answer.ceiling =
+                    fabric_ceiling_value(fabric, fabric_len, given, given_len, queue, colour);
+                fabric_ceiling_place(fabric, fabric_len, given, given_len, queue, colour)
+            }
         }
     };
     answer
@@ -59,6 +64,9 @@ pub fn call(call: Call, parts: &mut [LentMemory; PARTS]) -> u32 {
             ),
             Call::Run => fabric_run(fabric, fabric_len, state, state_len, given, given_len),
             Call::Check => fabric_check(fabric, fabric_len, given, given_len, result, result_len),
+            Call::Ceiling { queue, colour } => {
+                fabric_ceiling(fabric, fabric_len, given, given_len, queue, colour)
+            }
         }
     }
 }

@@ -1,7 +1,9 @@
 //! Compares the kit's static library, called over C, with the second program.
 
 mod answer;
+mod as_expected;
 mod case;
+mod ceiling_cases;
 mod counts;
 mod crash;
 mod credit_loop_cases;
@@ -16,15 +18,19 @@ mod damaged_state;
 mod damaged_table;
 mod difference;
 mod fixed_cases;
+mod followed;
+mod followed_ceilings;
 mod followed_sums;
 mod lent_memory;
 #[path = "../shared/library.rs"]
 mod library;
 mod library_side;
+mod list;
 mod options;
 mod panel_cases;
 mod random_calls;
 mod random_cases;
+mod random_ceilings;
 #[path = "../shared/random_fabrics.rs"]
 mod random_fabrics;
 mod random_lists;
@@ -32,6 +38,7 @@ mod round_trip;
 mod second_side;
 mod sisters;
 mod trial;
+mod wild_number;
 
 use std::process::ExitCode;
 use std::time::Instant;
@@ -44,8 +51,8 @@ use options::{Options, USAGE};
 use random_cases::random_case;
 use trial::Trial;
 
-/// How often each number of each call must be reached, and how many accepted sums must be followed
-/// through a list of calls.
+/// How often each number of each call must be reached, and how many accepted sums and ceilings must
+/// be followed through a list of calls.
 const LEAST: u64 = 1000;
 
 fn main() -> ExitCode {
@@ -104,11 +111,10 @@ fn compare(options: &Options) -> ExitCode {
     }
     let seconds = begin.elapsed().as_secs_f64();
     println!(
-        "{number} cases, {} compared calls, {} accepted sums followed through {} calls, {seconds:.1} s",
-        trial.counts.total(),
-        trial.followed.sums,
-        trial.followed.calls
+        "{number} cases, {} compared calls, {seconds:.1} s",
+        trial.counts.total()
     );
+    println!("{}", trial.followed);
     println!("{}", trial.counts);
     verdict(found, &too_few(&trial))
 }
@@ -119,12 +125,8 @@ fn too_few(trial: &Trial) -> Vec<String> {
     let mut lines: Vec<String> = seldom
         .map(|(call, number, count)| format!("{call} came to number {number}: {count} times"))
         .collect();
-    if trial.followed.sums < LEAST {
-        let sums = trial.followed.sums;
-        lines.push(format!(
-            "accepted sums followed through lists of calls: {sums}"
-        ));
-    }
+    let seldom = trial.followed.too_seldom(LEAST).into_iter();
+    lines.extend(seldom.map(|(what, count)| format!("{what} followed through a list: {count}")));
     lines
 }
 

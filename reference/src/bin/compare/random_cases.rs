@@ -9,15 +9,17 @@ use crate::damaged_file::random_file;
 use crate::damaged_table::random_table;
 use crate::lent_memory::Guard;
 use crate::random_calls::random_fabric_call;
+use crate::random_ceilings::random_ceiling_case;
 use crate::random_lists::random_list;
 
 pub fn random_case(random: &mut Random) -> Case {
     match random.below(100) {
-        0..44 => random_file_case(random),
-        44..56 => random_fabric_call(random, Call::Start),
-        56..70 => random_fabric_call(random, Call::Step),
-        70..83 => random_fabric_call(random, Call::Run),
-        83..98 => random_fabric_call(random, Call::Check),
+        0..38 => random_file_case(random),
+        38..50 => random_fabric_call(random, Call::Start),
+        50..63 => random_fabric_call(random, Call::Step),
+        63..75 => random_fabric_call(random, Call::Run),
+        75..87 => random_fabric_call(random, Call::Check),
+        87..98 => random_ceiling_case(random),
         _ => random_list(random),
     }
 }

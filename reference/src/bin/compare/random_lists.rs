@@ -1,5 +1,5 @@
 //! Lists of calls on one state, as a start left it: accepted and refused ones mixed, with checks
-//! between them.
+//! and ceilings between them.
 
 use reference::check::weights_length;
 use reference::random::Random;
@@ -7,31 +7,48 @@ use reference::random_proposal::Equations;
 use reference::random_state::random_choices;
 use reference::state::COMPONENT_STATE;
 use reference::terms::write_proposal;
-use reference::Fabric;
+use reference::{Fabric, Kind};
 
 use crate::case::{Call, Case, Expected, LentCall};
 use crate::damaged_choices::good_or_damaged_choices;
 use crate::damaged_proposal::random_proposal;
 use crate::random_calls::random_step_count;
 use crate::random_cases::{lent, random_memory};
+use crate::random_ceilings::{places_above_0, random_ceiling};
 use crate::random_fabrics::good_fabric;
 use crate::trial::ROOM;
 
 /// How many steps a long run takes.
 const LONG: usize = 100_000;
 
+/// For how many weights of a sum at most the ceiling is followed from the beginning.
+const CEILINGS: usize = 4;
+
 pub fn random_list(random: &mut Random) -> Case {
-    let fabric = good_fabric(random);
+    let mut fabric = good_fabric(random);
+    if random.percent(50) {
+        draw_small_queues(random, &mut fabric);
+    }
     list_on(random, &fabric)
+}
+
+/// Queues that fill up and run empty within a few steps.
+fn draw_small_queues(random: &mut Random, fabric: &mut Fabric) {
+    let components = fabric.components.iter_mut();
+    for queue in components.filter(|component| component.kind == Kind::Queue) {
+        queue.capacity = random.between(1, 5) as u8;
+        queue.filling = queue.filling.min(random.below(3) as u8).min(queue.capacity);
+        if queue.filling == 0 {
+            queue.fill_colour = 0;
+        }
+    }
 }
 
 /// Begins with a start that is accepted and a proposal that most often is.
 pub fn list_on(random: &mut Random, fabric: &Fabric) -> Case {
     let equations = Equations::of(fabric);
-    let mut calls = vec![
-        LentCall::accepted_start(),
-        cancelling_check(random, fabric, &equations),
-    ];
+    let mut calls = vec![LentCall::accepted_start()];
+    calls.extend(cancelling_calls(random, fabric, &equations));
     for _ in 0..random.pick(&[0, 1, 5, 20]) {
         calls.push(random_call(random, fabric, &equations));
     }
@@ -43,7 +60,7 @@ pub fn list_on(random: &mut Random, fabric: &Fabric) -> Case {
 pub fn long_run(random: &mut Random, fabric: &Fabric) -> Case {
     let equations = Equations::of(fabric);
     let mut calls = vec![LentCall::accepted_start()];
-    calls.extend((0..3).map(|_| cancelling_check(random, fabric, &equations)));
+    calls.extend((0..3).flat_map(|_| cancelling_calls(random, fabric, &equations)));
     let mut left = LONG;
     while left > 0 {
         let piece = random.between(1, left.min(ROOM / fabric.components.len()));
@@ -64,10 +81,19 @@ fn case_on(random: &mut Random, fabric: &Fabric, past: usize, calls: Vec<LentCal
     }
 }
 
-fn cancelling_check(random: &mut Random, fabric: &Fabric, equations: &Equations) -> LentCall {
+/// A check of a proposal in which all flows cancel, and ceilings that it gives.
+fn cancelling_calls(random: &mut Random, fabric: &Fabric, equations: &Equations) -> Vec<LentCall> {
     let proposal = write_proposal(&equations.cancelling_terms(random));
     let space = weights_length(fabric.components.len());
-    LentCall::plain(Call::Check, &proposal, space, Expected::Nothing)
+    let check = LentCall::plain(Call::Check, &proposal, space, Expected::Nothing);
+    let mut places = places_above_0(fabric, &proposal);
+    random.shuffle(&mut places);
+    places.truncate(CEILINGS);
+    let ceilings = places.into_iter().map(|(queue, colour)| {
+        let call = Call::Ceiling { queue, colour };
+        LentCall::plain(call, &proposal, 0, Expected::ACCEPTED)
+    });
+    [check].into_iter().chain(ceilings).collect()
 }
 
 fn random_call(random: &mut Random, fabric: &Fabric, equations: &Equations) -> LentCall {
@@ -84,10 +110,15 @@ fn random_call(random: &mut Random, fabric: &Fabric, equations: &Equations) -> L
             let choices = good_or_damaged_choices(random, fabric, steps);
             (Call::Run, choices, none())
         }
-        _ => {
+        95..98 => {
             let proposal = random_proposal(random, equations);
             let weights = random_memory(random, weights_length(fabric.components.len()));
             (Call::Check, proposal, weights)
+        }
+        _ => {
+            let proposal = random_proposal(random, equations);
+            let ceiling = random_ceiling(random, fabric, &proposal);
+            (ceiling, proposal, none())
         }
     };
     LentCall {

@@ -1,6 +1,6 @@
 //! The second program's side of a call.
 
-use reference::{check, pack, run, start, step, unpack};
+use reference::{ceiling, check, pack, run, start, step, unpack};
 
 use crate::answer::Answer;
 use crate::case::Call;
@@ -26,6 +26,13 @@ pub fn call(call: Call, parts: &mut [Vec<u8>; PARTS]) -> Answer {
             let answer = check(fabric, given, result);
             Answer {
                 constant: answer.unwrap_or(0),
+                ..Answer::of(&answer)
+            }
+        }
+        Call::Ceiling { queue, colour } => {
+            let answer = ceiling(fabric, given, queue, colour);
+            Answer {
+                ceiling: answer.unwrap_or(0),
                 ..Answer::of(&answer)
             }
         }

@@ -67,4 +67,20 @@ extern "C" {
         weights: *const u8,
         weights_len: usize,
     ) -> i64;
+    pub fn fabric_ceiling_place(
+        fabric: *const u8,
+        fabric_len: usize,
+        proposal: *const u8,
+        proposal_len: usize,
+        queue: u64,
+        colour: u64,
+    ) -> u64;
+    pub fn fabric_ceiling_value(
+        fabric: *const u8,
+        fabric_len: usize,
+        proposal: *const u8,
+        proposal_len: usize,
+        queue: u64,
+        colour: u64,
+    ) -> u64;
 }

@@ -2,14 +2,17 @@
 
 use reference::check::Sum;
 use reference::component::MOST_COLOURS;
-use reference::state::COMPONENT_STATE;
+use reference::packed::read_file;
 
 use crate::answer::Answer;
-use crate::case::{Call, Case, Expected, Lent};
+use crate::case::{Call, Case, Lent};
 use crate::counts::Counts;
 use crate::difference::{hex, same, same_bytes, Difference};
-use crate::followed_sums::{Followed, List};
+use crate::followed::Followed;
+use crate::followed_ceilings::FollowedCeiling;
+use crate::followed_sums::FollowedSum;
 use crate::lent_memory::LentMemory;
+use crate::list::List;
 use crate::{library_side, second_side};
 
 /// At least as much as any case lends in one piece.
@@ -21,7 +24,7 @@ const COMPONENT_COUNT: usize = 1;
 /// The parts of lent memory: fabric or table, state, choices or proposal, and a result's memory.
 pub const PARTS: usize = 4;
 pub const FABRIC: usize = 0;
-const STATE: usize = 1;
+pub const STATE: usize = 1;
 const GIVEN: usize = 2;
 pub const RESULT: usize = 3;
 
@@ -35,7 +38,7 @@ impl Trial {
     pub fn new() -> Trial {
         Trial {
             parts: std::array::from_fn(|_| LentMemory::new(ROOM)),
-            counts: Counts::default(),
+            counts: Counts::new(),
             followed: Followed::default(),
         }
     }
@@ -58,8 +61,8 @@ impl Trial {
             last = answer.number;
             self.as_expected(&lent.expected, &answer)
                 .map_err(describe)?;
-            if lent.call == Call::Check && last == 0 {
-                list.follow(self.accepted_sum(&answer));
+            if last == 0 {
+                self.follow(&mut list, lent.call, &answer);
             }
             list.after(lent.call, last, self.parts[STATE].bytes())
                 .map_err(describe)?;
@@ -70,6 +73,21 @@ impl Trial {
         }
         self.followed.add(&list);
         Ok(last)
+    }
+
+    /// Takes up what an accepted check or ceiling has given.
+    fn follow(&self, list: &mut List, call: Call, answer: &Answer) {
+        match call {
+            Call::Check => list.sums.push(FollowedSum::new(self.accepted_sum(answer))),
+            Call::Ceiling { queue, colour } => {
+                let (queue, colour) = (queue as usize, colour as usize);
+                let fabric = read_file(self.parts[FABRIC].bytes()).expect("an accepted file");
+                let capacity = fabric.components[queue].capacity;
+                let ceiling = FollowedCeiling::new(queue, colour, answer.ceiling, capacity);
+                list.ceilings.push(ceiling);
+            }
+            _ => {}
+        }
     }
 
     pub fn lend(&mut self, part: usize, lent: &Lent) {
@@ -98,36 +116,8 @@ impl Trial {
         pairs.try_for_each(|(part, second)| same_bytes(what, part.bytes(), second))
     }
 
-    fn as_expected(&self, expected: &Expected, answer: &Answer) -> Result<(), Difference> {
-        let number_and_place = |number, place| {
-            same("number and the documents' own", answer.number, number)?;
-            same("place and the documents' own", answer.place, place)
-        };
-        let result = |bytes: &[u8]| {
-            number_and_place(0, 0)?;
-            let written = self.parts[RESULT].bytes();
-            same_bytes("result and the documents' own", written, bytes)
-        };
-        match expected {
-            Expected::Nothing => Ok(()),
-            Expected::NumberAndPlace(number, place) => number_and_place(*number, *place),
-            Expected::Result(bytes) => result(bytes),
-            Expected::Step { moves, first_bytes } => {
-                result(moves)?;
-                let state = self.parts[STATE].bytes().iter().step_by(COMPONENT_STATE);
-                let found: Vec<u8> = state.copied().collect();
-                same_bytes("state and the documents' own", &found, first_bytes)
-            }
-            Expected::Listing(text) => {
-                number_and_place(0, 0)?;
-                let listing = self.accepted_sum(answer).listing();
-                same("listing and the documents' own", &listing, text)
-            }
-        }
-    }
-
     /// The sum whose weights and constant the library has just given.
-    fn accepted_sum(&self, answer: &Answer) -> Sum {
+    pub fn accepted_sum(&self, answer: &Answer) -> Sum {
         let components = usize::from(self.parts[FABRIC].bytes()[COMPONENT_COUNT]);
         let entries = self.parts[RESULT].bytes().as_chunks().0;
         let weights = entries[..MOST_COLOURS * components].iter();

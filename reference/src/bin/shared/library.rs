@@ -44,4 +44,12 @@ extern "C" {
         weights: *mut u8,
         weights_len: usize,
     ) -> u32;
+    pub fn fabric_ceiling(
+        fabric: *const u8,
+        fabric_len: usize,
+        proposal: *const u8,
+        proposal_len: usize,
+        queue: u64,
+        colour: u64,
+    ) -> u32;
 }

@@ -1,0 +1,32 @@
+//! The list of calls of a case, and what is followed through it.
+
+use reference::state::COMPONENT_STATE;
+
+use crate::case::Call;
+use crate::difference::Difference;
+use crate::followed_ceilings::FollowedCeiling;
+use crate::followed_sums::FollowedSum;
+
+/// A start that is accepted, then the list. Checks and ceilings stand outside the list.
+#[derive(Default)]
+pub struct List {
+    started: bool,
+    pub sums: Vec<FollowedSum>,
+    pub ceilings: Vec<FollowedCeiling>,
+}
+
+impl List {
+    /// From the accepted start on each sum and each ceiling holds in the state, whatever the call
+    /// was and whether or not it was refused.
+    pub fn after(&mut self, call: Call, number: u32, state: &[u8]) -> Result<(), Difference> {
+        let listed = self.started && matches!(call, Call::Start | Call::Step | Call::Run);
+        self.started |= call == Call::Start && number == 0;
+        if !self.started {
+            return Ok(());
+        }
+        let states = state.as_chunks::<COMPONENT_STATE>().0;
+        let (mut sums, mut ceilings) = (self.sums.iter_mut(), self.ceilings.iter_mut());
+        sums.try_for_each(|sum| sum.after(listed, states))?;
+        ceilings.try_for_each(|ceiling| ceiling.after(listed, states))
+    }
+}
