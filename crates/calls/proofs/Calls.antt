@@ -1,7 +1,7 @@
 -- What an accepted start gives and every step keeps, every list of calls keeps. Assumes nothing.
 use mathlib.Core.Path.{_≡_, refl, sym, subst}
 use mathlib.Core.List.{List, [], _∷_}
-use Prim.Native.Nat.{ℕ, _/_}
+use Prim.Native.Nat.{ℕ, _*_, _/_, _≤_}
 use native.Mathlib.Nat.{div-add-mod}
 use native.Mathlib.Omega.{arith}
 use lib.ListN.{length}
@@ -44,17 +44,16 @@ module _ (file : List ℕ) (P : List ℕ → Type 0)
     unfolding Kept
     stepped s c g w b = (good-step (netlistIn file) ends order s c (record { accepted = a; good = g; allowed = w }), at-step s c g w (b .1))
 
-    ran : (c s : List ℕ) → runVerdict file s c ≡ Accepted → Kept s → Kept (afterSteps (netlistIn file) (length c / netlistIn file .components) c s)
+    -- the first m steps of a run
+    ran : (c s : List ℕ) → runVerdict file s c ≡ Accepted → (m : ℕ) → netlistIn file .components * m ≤ length c → Kept s → Kept (afterSteps (netlistIn file) m c s)
     unfolding Kept
-    ran c s e b =
-        let f = netlistIn file in
-        steps-keep f ends order a Kept stepped (length c / f .components) c s (omega (arith, div-add-mod (length c) (f .components))) (run-allowed file s c e) (b .0) b
+    ran c s e m l b = steps-keep (netlistIn file) ends order a Kept stepped m c s l (run-allowed file s c e) (b .0) b
 
     call-keeps : (c : Call) (s : List ℕ) → Kept s → Kept (stateAfter file c s)
     unfolding stateAfterStart stateAfterStep stateAfterRun Kept
     call-keeps start s b = after-verdict (startVerdict file (length s)) (started (netlistIn file) s) s (begun s) b
     call-keeps (step c space) s b = after-verdict (stepVerdict file s c space) (next (netlistIn file) s c) s (λ e. stepped s c (b .0) (step-allowed file s c space e) b) b
-    call-keeps (run c) s b = after-verdict (runVerdict file s c) (afterSteps (netlistIn file) (length c / netlistIn file .components) c s) s (λ e. ran c s e b) b
+    call-keeps (run c) s b = after-verdict (runVerdict file s c) (afterSteps (netlistIn file) (length c / netlistIn file .components) c s) s (λ e. ran c s e (length c / netlistIn file .components) (omega (arith, div-add-mod (length c) (netlistIn file .components))) b) b
 
     list-keeps : (cs : List Call) (s : List ℕ) → Kept s → Kept (stateAfterAll file cs s)
     unfolding stateAfterAll
@@ -68,3 +67,12 @@ module _ (file : List ℕ) (P : List ℕ → Type 0)
   calls-keep state e cs =
       let x = facts file (started-file file (length state) e .0) in
       subst (λ (s : List ℕ). Kept (stateAfterAll file cs s)) (sym (start-writes file state e)) (list-keeps (x .0) (x .1) (x .2) cs (started (netlistIn file) state) (begun (x .0) (x .1) (x .2) state e))
+
+  -- and in each state inside a further run, after the first m of its steps
+  pub runs-keep : (state : List ℕ) → startVerdict file (length state) ≡ Accepted → (cs : List Call) (choices : List ℕ) → runVerdict file (stateAfterAll file cs (stateAfterStart file state)) choices ≡ Accepted
+      → (m : ℕ) → netlistIn file .components * m ≤ length choices
+      → Good (netlistIn file) (afterSteps (netlistIn file) m choices (stateAfterAll file cs (stateAfterStart file state))) × P (afterSteps (netlistIn file) m choices (stateAfterAll file cs (stateAfterStart file state)))
+  unfolding Kept
+  runs-keep state e cs choices r m l =
+      let x = facts file (started-file file (length state) e .0) in
+      ran (x .0) (x .1) (x .2) choices (stateAfterAll file cs (stateAfterStart file state)) r m l (calls-keep state e cs)

@@ -21,9 +21,10 @@ use Rattle.cases.specs.CreditLoop.{creditTable, creditFile}
 use Rattle.headroom.specs.Headroom.{owedOf, headroom}
 use Rattle.ceiling.specs.Ceiling.{ceiling, noPlace, notAbove, ceilingVerdict, ceilingBy, ceilingValue}
 use Rattle.cases.specs.EightKinds.{eightTable, eightFile}
-use Rattle.cases.specs.Ceilings.{twoLoops, twoFile, ceilings, found, expected}
+use Rattle.cases.specs.Ceilings.{answerTo, twoLoops, twoFile, ceilings}
+use Rattle.cases.specs.Table.{found, expected}
 
-pub all-ceilings : found ceilings ≡ expected ceilings
+pub all-ceilings : found answerTo ceilings ≡ expected ceilings
 unfolding ceilings creditTable creditFile eightTable eightFile twoLoops twoFile packedFile headerBytes headerFields records recordBytes recordRow recordPad openTable firstBadRow firstBadRecord
     firstUnmatched endOf dependence dependsOn nearOf least count any walks hasCircle rowOk kindOf portOf portUse usesFirstMap usesSecondMap usesMask isSource isQueue netlistIn sumTo total isZero side
     hasIndex hasEquation factor componentOf index multiplier flowSum weight entry acceptedSum constant badTerm isLeft isWeight owedOf headroom ceiling noPlace notAbove ceilingVerdict ceilingBy ceilingValue

@@ -31,9 +31,10 @@ use Rattle.checking.specs.Check.{checkVerdict, checkConstant, weightsAfterCheck
 use Rattle.lines.specs.Decimal.{spelled, decimal}
 use Rattle.lines.specs.Listing.{weightLine, weightLines, sumLine, textBy, listingOf, listing}
 use Rattle.cases.specs.CreditLoop.{creditTable, creditFile, forkIntoJoin}
-use Rattle.cases.specs.Starred.{starred, found, expected}
+use Rattle.cases.specs.Starred.{answerTo, starred}
+use Rattle.cases.specs.Table.{found, expected}
 
-pub all-starred : found starred ≡ expected starred
+pub all-starred : found answerTo starred ≡ expected starred
 unfolding starred creditTable creditFile forkIntoJoin packedFile headerBytes headerFields records recordBytes recordRow recordPad openTable firstBadRow firstBadRecord firstUnmatched
     endOf dependence dependsOn nearOf least count any walks hasCircle rowOk kindOf portOf portUse usesFirstMap usesSecondMap usesMask isSource isQueue packed netlistIn startVerdict
     stateAfterStart stepVerdict stateAfterStep movesAfterStep checkVerdict checkConstant weightsAfterCheck started cells startAt startCell cellWith queueColours goodChoice choiceAt

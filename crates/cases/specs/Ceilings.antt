@@ -6,6 +6,7 @@ use Rattle.refusals.specs.Refusals.{numberOf, placeOf}
 use Rattle.fabric.specs.PackedFile.{packedFile}
 use Rattle.ceiling.specs.Ceiling.{ceilingVerdict, ceilingValue}
 use Rattle.cases.specs.Rows.{line}
+use Rattle.cases.specs.Table.{Case, _gives_}
 use Rattle.cases.specs.CreditLoop.{creditFile}
 use Rattle.cases.specs.EightKinds.{eightFile}
 
@@ -41,11 +42,10 @@ pub data Input : Type 0 where
 pub data Answer : Type 0 where
   answer : ℕ → ℕ → ℕ → Answer
 
-infix 10 _gives_
-pub data Case : Type 0 where
-  _gives_ : Input → Answer → Case
+abbrev pub answerTo : Input → Answer
+answerTo (place file p q d) = answer (numberOf (ceilingVerdict file p q d)) (placeOf (ceilingVerdict file p q d)) (ceilingValue file p q d)
 
-unfoldable pub ceilings : List Case
+unfoldable pub ceilings : List (Case Input Answer)
 ceilings =
     -- K is 2, the weight 1, the capacity 2
     (place creditFile (loopSum 0 1) 2 0 gives answer 0 0 2)
@@ -66,11 +66,3 @@ ceilings =
     ∷ (place twoFile (loopSum 0 1) 8 0 gives answer 32 0 0)
     ∷ (place eightFile difference 6 1 gives answer 32 0 0)
     ∷ []
-
-abbrev pub found : List Case → List Answer
-found [] = []
-found ((place file p q d gives a) ∷ cs) = answer (numberOf (ceilingVerdict file p q d)) (placeOf (ceilingVerdict file p q d)) (ceilingValue file p q d) ∷ found cs
-
-abbrev pub expected : List Case → List Answer
-expected [] = []
-expected ((i gives a) ∷ cs) = a ∷ expected cs

@@ -1,4 +1,5 @@
 pub mod Rows
+pub mod Table
 pub mod CreditLoop
 pub mod Starred
 pub mod EightKinds

@@ -11,6 +11,7 @@ use Rattle.stepping.specs.Calls.{stateAfterStart, stepVerdict, stateAfterStep, 
 use Rattle.checking.specs.Check.{checkVerdict, checkConstant, weightsAfterCheck}
 use Rattle.lines.specs.Decimal.{digit}
 use Rattle.lines.specs.Listing.{listing}
+use Rattle.cases.specs.Table.{Case, _gives_}
 use Rattle.cases.specs.CreditLoop.{creditFile, forkIntoJoin}
 
 -- check with these terms; the listing with them; steps with these choices, from start; a step without any, from start with a byte of the state set; pack of a table
@@ -56,10 +57,6 @@ answerTo (steps choices) = steppedAll atStart choices
 answerTo (changed at byte) = stepped (set atStart at byte) (replicate 6 0)
 answerTo (table channels rows) = saying (packed 1 channels rows 1000) [] [] []
 
-infix 10 _gives_
-pub data Case : Type 0 where
-  _gives_ : Input → Answer → Case
-
 -- Terms hex 04000001, 0A000001, 02000001, 03000001, 07000001.
 abbrev four : List ℕ
 four = 4 ∷ 0 ∷ 0 ∷ 1 ∷ 10 ∷ 0 ∷ 0 ∷ 1 ∷ 2 ∷ 0 ∷ 0 ∷ 1 ∷ 3 ∷ 0 ∷ 0 ∷ 1 ∷ []
@@ -81,7 +78,7 @@ line q = 81 ∷ 32 ∷ digit q ∷ 32 ∷ digit 0 ∷ 32 ∷ digit 1 ∷ 10 ∷ 
 abbrev sum : ℕ → List ℕ
 sum k = 83 ∷ 85 ∷ 77 ∷ 32 ∷ digit k ∷ 10 ∷ []
 
-unfoldable pub starred : List Case
+unfoldable pub starred : List (Case Input Answer)
 starred =
     -- The listing prints Q 2 0 1, Q 5 0 1, SUM 2.
     (lists five gives prints (line 2 ++ line 5 ++ sum 2))
@@ -102,11 +99,3 @@ starred =
     -- A fork whose outputs are the two inputs of one join: 8.
     ∷ (table 4 forkIntoJoin gives answer 8 0 [] [] [])
     ∷ []
-
-abbrev pub found : List Case → List Answer
-found [] = []
-found ((i gives a) ∷ cs) = answerTo i ∷ found cs
-
-abbrev pub expected : List Case → List Answer
-expected [] = []
-expected ((i gives a) ∷ cs) = a ∷ expected cs

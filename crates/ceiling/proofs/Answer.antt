@@ -51,22 +51,12 @@ module _ (f : Netlist) (p : List ℕ) (q d : ℕ) where
   judged-first e = ap (λ (v : Verdict). andThen v (firstRefusal (placeTests f p q d))) e ∙ sym (refusal-append (judgeTests f p) (placeTests f p q d))
 
   module _ (ok : judged f p ≡ Accepted) where
-    then-place : firstRefusal (placeTests f p q d) ≡ placed f p q d
-    unfolding judged placed
-    then-place = sym (refusal-append (judgeTests f p) (placeTests f p q d) ∙ ap (λ (v : Verdict). andThen v (firstRefusal (placeTests f p q d))) ok)
-
     -- then 31, then 32
-    pub place-first : noPlace f q d ≡ true → Refused NotAQueue ≡ placed f p q d
-    place-first e = sym (ap (λ (b : Bool). cond b (Refused NotAQueue) (cond (notAbove f p q d) (Refused WeightNotPositive) Accepted)) e) ∙ then-place
-
-    last-test : noPlace f q d ≡ false → cond (notAbove f p q d) (Refused WeightNotPositive) Accepted ≡ placed f p q d
-    last-test e = sym (ap (λ (b : Bool). cond b (Refused NotAQueue) (cond (notAbove f p q d) (Refused WeightNotPositive) Accepted)) e) ∙ then-place
-
-    pub weight-first : noPlace f q d ≡ false → notAbove f p q d ≡ true → Refused WeightNotPositive ≡ placed f p q d
-    weight-first e k = sym (ap (λ (b : Bool). cond b (Refused WeightNotPositive) Accepted) k) ∙ last-test e
-
-    pub all-passed : noPlace f q d ≡ false → notAbove f p q d ≡ false → Accepted ≡ placed f p q d
-    all-passed e k = sym (ap (λ (b : Bool). cond b (Refused WeightNotPositive) Accepted) k) ∙ last-test e
+    pub place-tests : {a b : Bool} → noPlace f q d ≡ a → notAbove f p q d ≡ b → cond a (Refused NotAQueue) (cond b (Refused WeightNotPositive) Accepted) ≡ placed f p q d
+    unfolding judged placed
+    place-tests x y =
+        sym (ap₂ (λ (a b : Bool). cond a (Refused NotAQueue) (cond b (Refused WeightNotPositive) Accepted)) x y)
+        ∙ sym (refusal-append (judgeTests f p) (placeTests f p q d) ∙ ap (λ (v : Verdict). andThen v (firstRefusal (placeTests f p q d))) ok)
 
     pub constant-given : {k : ℤ} → k ≡ constantBy (judged f p) f p → k ≡ constant f p
     unfolding constantBy
@@ -126,11 +116,8 @@ place-of f q d e = go (ltb q (f .components)) refl (isQueue (kind (rowOf f q))) 
 
 -- ---- the entry
 module _ (f : Netlist) (q d : ℕ) where
-  pub entry-none : noPlace f q d ≡ true → mostEntries ≡ cond (noPlace f q d) mostEntries (8 * q + d)
-  entry-none e = sym (ap (λ (b : Bool). cond b mostEntries (8 * q + d)) e)
-
-  pub entry-some : noPlace f q d ≡ false → 8 * q + d ≡ cond (noPlace f q d) mostEntries (8 * q + d)
-  entry-some e = sym (ap (λ (b : Bool). cond b mostEntries (8 * q + d)) e)
+  pub entry-by : {b : Bool} → noPlace f q d ≡ b → cond b mostEntries (8 * q + d) ≡ cond (noPlace f q d) mostEntries (8 * q + d)
+  entry-by e = sym (ap (λ (b : Bool). cond b mostEntries (8 * q + d)) e)
 
 -- past all entries: no place; else the entry of the place, and its weight
 module _ (f : Netlist) (h : AcceptedNetlist f) (q d : ℕ) {u : ℕ} (eu : u ≡ cond (noPlace f q d) mostEntries (8 * q + d)) where
@@ -155,7 +142,7 @@ module _ (f : Netlist) (h : AcceptedNetlist f) (q d : ℕ) {u : ℕ} (eu : u ≡
   unfolding weightBy
   weight-there p e {v} ok =
       let r = place-of f q d e in
-      ap₂ (λ (v : Verdict) (u : ℕ). weightBy v f p u) ok (eu ∙ sym (entry-some f q d e))
+      ap₂ (λ (v : Verdict) (u : ℕ). weightBy v f p u) ok (eu ∙ sym (entry-by f q d e))
       ∙ ap (λ (b : Bool). cond b (aboveZero (entry f p (8 * q + d))) 0) (lt-ltb (8 * q + d) (8 * f .components) (low e))
       ∙ ap aboveZero (entry-weight f p q d (omega (arith, r .2, h .facts .fewColours)) (r .2))
 

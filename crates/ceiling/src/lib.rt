@@ -71,7 +71,7 @@ fn ceiling_of(table: &[u8], size: Size, proposal: &[u8], queue: u64, colour: u64
             let most = wide(component::capacity(table, queue as usize));
             Bound {
                 verdict: Verdict::Accepted,
-                ceiling: headroom::share_of(left, a.weight, most),
+                ceiling: headroom::bounded(left, a.weight, most),
             }
         }
     }

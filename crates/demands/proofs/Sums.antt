@@ -2,7 +2,7 @@
 use mathlib.Core.Path.{_≡_, refl, ap, sym, _∙_}
 use mathlib.Core.Bool.{Bool, true, false}
 use mathlib.Core.List.{List}
-use Prim.Native.Nat.{ℕ, _<_}
+use Prim.Native.Nat.{ℕ, _*_, _≤_, _<_}
 use lib.ListN.{length}
 use lib.IntN.{ℤ, pos, _*ℤ_, zero-*ℤ}
 use Rattle.integers.specs.Sum.{sumTo}
@@ -29,10 +29,11 @@ use Rattle.flows.proofs.Exactly.{accepted-cancels}
 use Rattle.flows.proofs.Steps.{step-constant}
 use Rattle.balance.specs.Balance.{transfer}
 use Rattle.balance.proofs.Holds.{holds}
-use Rattle.stepping.specs.Calls.{startVerdict, stateAfterStart}
+use Rattle.steps.specs.Steps.{afterSteps}
+use Rattle.stepping.specs.Calls.{startVerdict, stateAfterStart, runVerdict}
 use Rattle.stepping.proofs.Calls.{started-file}
 use Rattle.calls.specs.Calls.{Call, stateAfterAll}
-use Rattle.calls.proofs.Calls.{calls-keep}
+use Rattle.calls.proofs.Calls.{calls-keep, runs-keep}
 
 -- the sum at start is the constant
 start-sum : (f : Netlist) (ends order : List ℕ) → AcceptedFabric f ends order → (p s : List ℕ) → acceptedSum f p (counts (started f s)) ≡ constant f p
@@ -51,13 +52,31 @@ sum-keeps : (f : Netlist) (ends order : List ℕ) → AcceptedFabric f ends orde
 sum-keeps f ends order a p c s ch g w q =
     step-constant f (record { ends = ends; order = order; facts = a }) p (transfer (moved f s ch)) (counts s) (counts (next f s ch)) (holds f ends order s ch (record { accepted = a; good = g; allowed = w })) c ∙ q
 
--- so after every list of calls the state is good, and the sum is the constant
-pub sums-kept : (file p : List ℕ) → judged (netlistIn file) p ≡ Accepted → (state : List ℕ) → startVerdict file (length state) ≡ Accepted → (calls : List Call)
-    → Good (netlistIn file) (stateAfterAll file calls (stateAfterStart file state))
-    × (acceptedSum (netlistIn file) p (counts (stateAfterAll file calls (stateAfterStart file state))) ≡ constant (netlistIn file) p)
-sums-kept file p accepted state began calls =
-    let f : Netlist = netlistIn file in
-    let x = facts file (started-file file (length state) began .0) in
-    let a = x .2 in
-    let c = accepted-cancels f p (a .fewColours) accepted in
-    calls-keep file (λ s. acceptedSum f p (counts s) ≡ constant f p) (λ s l. start-sum f (x .0) (x .1) a p s) (sum-keeps f (x .0) (x .1) a p c) state began calls
+-- so after every list of calls the state is good, and the sum is the constant; and in each state inside a further run
+module _ (file p : List ℕ) (accepted : judged (netlistIn file) p ≡ Accepted) (state : List ℕ) (began : startVerdict file (length state) ≡ Accepted) (calls : List Call) where
+  abbrev after : List ℕ
+  after = stateAfterAll file calls (stateAfterStart file state)
+
+  Kept : List ℕ → Type 0
+  Kept s = acceptedSum (netlistIn file) p (counts s) ≡ constant (netlistIn file) p
+
+  at-start : (s : List ℕ) → startVerdict file (length s) ≡ Accepted → Kept (started (netlistIn file) s)
+  unfolding Kept
+  at-start s l =
+      let x = facts file (started-file file (length state) began .0) in
+      start-sum (netlistIn file) (x .0) (x .1) (x .2) p s
+
+  at-step : (s c : List ℕ) → Good (netlistIn file) s → Allowed (netlistIn file) c → Kept s → Kept (next (netlistIn file) s c)
+  unfolding Kept
+  at-step =
+      let x = facts file (started-file file (length state) began .0) in
+      sum-keeps (netlistIn file) (x .0) (x .1) (x .2) p (accepted-cancels (netlistIn file) p (x .2 .fewColours) accepted)
+
+  pub sums-kept : Good (netlistIn file) after × (acceptedSum (netlistIn file) p (counts after) ≡ constant (netlistIn file) p)
+  unfolding Kept
+  sums-kept = calls-keep file Kept at-start at-step state began calls
+
+  pub sums-inside : (choices : List ℕ) → runVerdict file after choices ≡ Accepted → (m : ℕ) → netlistIn file .components * m ≤ length choices
+      → Good (netlistIn file) (afterSteps (netlistIn file) m choices after) × (acceptedSum (netlistIn file) p (counts (afterSteps (netlistIn file) m choices after)) ≡ constant (netlistIn file) p)
+  unfolding Kept
+  sums-inside = runs-keep file Kept at-start at-step state began calls

@@ -64,11 +64,11 @@ pub fn raise(k: i64, owed: usize) -> usize
     above_zero(k) + owed - below_zero(k)
 }
 
-// What each of so much weight may have of the headroom, rounded down, and at most the capacity.
-pub fn share_of(headroom: usize, weight: usize, most: usize) -> usize
+// The headroom divided by the weight, rounding down, and at most the capacity.
+pub fn bounded(headroom: usize, weight: usize, most: usize) -> usize
     requires { ⌜ 0 < weight ⌝ }
     ensures { λ r. ⌜ r ≡ min (headroom / weight) most ⌝ }
 {
-    let share = headroom / weight;
-    if share < most { share } else { most }
+    let quotient = headroom / weight;
+    if quotient < most { quotient } else { most }
 }

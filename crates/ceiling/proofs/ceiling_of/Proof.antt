@@ -1,4 +1,4 @@
-use mathlib.Core.Path.{_≡_, sym, ap, _∙_}
+use mathlib.Core.Path.{_≡_, refl, sym, ap, _∙_}
 use mathlib.Core.Bool.{false}
 use mathlib.Core.List.{List}
 use Prim.Native.Nat.{ℕ}
@@ -18,7 +18,7 @@ use Rattle.headroom.specs.Headroom.{owed}
 use Rattle.judgement.proofs.Judged.{within-given}
 use Rattle.ceiling.specs.Ceiling.{noPlace}
 use Rattle.headroom.proofs.Headroom.{headroom-natural}
-use Rattle.ceiling.proofs.Answer.{refused-is, accepted-is, judged-first, place-first, weight-first, all-passed, constant-given, above-none, above-some, value-is, place-of, past-all, not-past, weight-there, owed-there}
+use Rattle.ceiling.proofs.Answer.{refused-is, accepted-is, judged-first, place-tests, constant-given, above-none, above-some, value-is, place-of, past-all, not-past, weight-there, owed-there}
 use Rattle.ceiling.proofs.ceiling_of.Statement.{statement}
 use Rattle.ceiling.proofs.ceiling_of.Tie as tie
 
@@ -75,7 +75,7 @@ returns : tie.Need-returns
 returns c =
     let a = at (c .before .before) in
     let gone = past-all (f a) (a .before .before .before .before .before .pre) (q a) (d a) (a .before .before .entry-of .ensures) (c .before .if1 .taken) in
-    refused-is (f a) (p a) (q a) (d a) (c .refused2 .ensures) (place-first (f a) (p a) (q a) (d a) (ok (c .before .before)) gone)
+    refused-is (f a) (p a) (q a) (d a) (c .refused2 .ensures) (place-tests (f a) (p a) (q a) (d a) (ok (c .before .before)) gone refl)
 
 -- a place of its fabric, and its weight
 module _ (c : tie.Else1) where
@@ -96,7 +96,7 @@ returns-2 : tie.Need-returns-2
 returns-2 c =
     let e = c .before .before .before in
     let a = at (e .before) in
-    refused-is (f a) (p a) (q a) (d a) (c .refused3 .ensures) (weight-first (f a) (p a) (q a) (d a) (ok (e .before)) (place e) (above-none (f a) (p a) (q a) (d a) (weight-is e) (c .before .if2 .taken)))
+    refused-is (f a) (p a) (q a) (d a) (c .refused3 .ensures) (place-tests (f a) (p a) (q a) (d a) (ok (e .before)) (place e) (above-none (f a) (p a) (q a) (d a) (weight-is e) (c .before .if2 .taken)))
 
 -- what is owed to the constant
 module _ (c : tie.After-struct-told) where
@@ -124,8 +124,8 @@ capacity-requires c κs =
 wide-requires : tie.Need-wide-requires
 wide-requires c κs = search needs
 
-share-of-requires : tie.Need-share-of-requires
-share-of-requires c κs = search needs
+bounded-requires : tie.Need-bounded-requires
+bounded-requires c κs = search needs
 
 returns-3 : tie.Need-returns-3
 returns-3 c =
@@ -138,8 +138,8 @@ returns-4 c =
     let a = met o in
     let e = c .before .before .before .before .before .before .before in
     accepted-is (f a) (p a) (q a) (d a)
-    (c .share-of .ensures ∙ value-is (f a) (p a) (q a) (d a) (constant-is o) (owed-is o) (c .before .before .before .raise .ensures) (weight-is e) (c .before .wide .ensures .0 ∙ c .before .before .capacity .ensures))
-    (all-passed (f a) (p a) (q a) (d a) (ok (e .before)) (place e) (above-some (f a) (p a) (q a) (d a) (weight-is e) (c .before .before .before .before .before .if2 .left)))
+    (c .bounded .ensures ∙ value-is (f a) (p a) (q a) (d a) (constant-is o) (owed-is o) (c .before .before .before .raise .ensures) (weight-is e) (c .before .wide .ensures .0 ∙ c .before .before .capacity .ensures))
+    (place-tests (f a) (p a) (q a) (d a) (ok (e .before)) (place e) (above-some (f a) (p a) (q a) (d a) (weight-is e) (c .before .before .before .before .before .if2 .left)))
 
 pub ceiling-of-spec : {M : Type 1} → statement M
 ceiling-of-spec =
@@ -158,6 +158,6 @@ ceiling-of-spec =
     raise-requires
     capacity-requires
     wide-requires
-    share-of-requires
+    bounded-requires
     returns-3
     returns-4)
