@@ -4,3 +4,4 @@ pub mod EightKinds
 pub mod Ceilings
 pub mod Hypotheses
 pub mod Promises
+pub mod ManyBlocks

@@ -4,3 +4,4 @@ pub mod CreditLoop
 pub mod Starred
 pub mod EightKinds
 pub mod Ceilings
+pub mod ManyBlocks

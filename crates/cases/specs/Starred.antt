@@ -58,7 +58,7 @@ answerTo (changed at byte) = stepped (set atStart at byte) (replicate 6 0)
 answerTo (table channels rows) = saying (packed 1 channels rows 1000) [] [] []
 
 -- Terms hex 04000001, 0A000001, 02000001, 03000001, 07000001.
-abbrev four : List ℕ
+abbrev pub four : List ℕ
 four = 4 ∷ 0 ∷ 0 ∷ 1 ∷ 10 ∷ 0 ∷ 0 ∷ 1 ∷ 2 ∷ 0 ∷ 0 ∷ 1 ∷ 3 ∷ 0 ∷ 0 ∷ 1 ∷ []
 
 abbrev sourceOn : List ℕ

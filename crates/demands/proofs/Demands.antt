@@ -39,7 +39,7 @@ use Rattle.demands.proofs.Sums.{sums-kept}
 use Rattle.demands.proofs.ReadBack.{bytes-back, table-back, sum-is}
 
 -- ---- demand 3
-checked : (file p : List ℕ) (space : ℕ) → checkVerdict file p space ≡ Accepted → judged (netlistIn file) p ≡ Accepted
+pub checked : (file p : List ℕ) (space : ℕ) → checkVerdict file p space ≡ Accepted → judged (netlistIn file) p ≡ Accepted
 unfolding checkVerdict judged
 checked file p space e =
     let f : Netlist = netlistIn file in
@@ -154,7 +154,7 @@ pub weightsRead : WeightsRead
 weightsRead = (bytes-read, table-read)
 
 -- of any entries that are the weights
-sums-read : (file p : List ℕ) (space : ℕ) → checkVerdict file p space ≡ Accepted → (entries : ℕ → ℤ) → ((u : ℕ) → u < 8 * netlistIn file .components → entries u ≡ entry (netlistIn file) p u)
+pub sums-read : (file p : List ℕ) (space : ℕ) → checkVerdict file p space ≡ Accepted → (entries : ℕ → ℤ) → ((u : ℕ) → u < 8 * netlistIn file .components → entries u ≡ entry (netlistIn file) p u)
     → (state : List ℕ) → startVerdict file (length state) ≡ Accepted → (calls : List Call)
     → sumRead (netlistIn file) entries (stateAfterAll file calls (stateAfterStart file state)) ≡ checkConstant file p space
 sums-read file p space accepted entries is state began calls =

@@ -3,3 +3,4 @@ pub mod Sums
 pub mod ReadBack
 pub mod Demands
 pub mod Ceiling
+pub mod Many

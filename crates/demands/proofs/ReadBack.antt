@@ -64,7 +64,7 @@ signed-back (negsuc k) f =
     let h : 2 ^ 63 ≤ 2 ^ 64 - suc k = omega arith in
     rw (le-ltb (2 ^ 64 - suc k) (2 ^ 63) h) (less (2 ^ 64 - suc k) (2 ^ 64) k (omega arith))
 
-entry-back : (bytes : List ℕ) (u : ℕ) (z : ℤ) → SFits w64 z → ((j : ℕ) → j < 8 → getD bytes (8 * u + j) 0 ≡ byteOf z j) → entryOfBytes bytes u ≡ z
+pub entry-back : (bytes : List ℕ) (u : ℕ) (z : ℤ) → SFits w64 z → ((j : ℕ) → j < 8 → getD bytes (8 * u + j) 0 ≡ byteOf z j) → entryOfBytes bytes u ≡ z
 unfolding entryOfBytes
 entry-back bytes u z f at =
     let e : lowestFirst 8 bytes (8 * u) ≡ ofZ w64 z = lowest 8 (ofZ w64 z) bytes (8 * u) at ∙ mod-eq-of-lt (ofZ-fits w64 z f .fits) in
@@ -79,20 +79,20 @@ few-terms f p e = let l = ltb-false 16384 (length p) (or-right (not (eqb (length
     or-right false b h = h
 
 module _ (f : Netlist) (p : List ℕ) (accepted : judged f p ≡ Accepted) where
-  weight-near : (q d : ℕ) → natAbs (weight f p q d) ≤ 2 ^ 40
+  pub weight-near : (q d : ℕ) → natAbs (weight f p q d) ≤ 2 ^ 40
   unfolding weight
   weight-near q d =
       let near = natAbs-sum (terms p) (2 ^ 22) (λ k. cond (eqb (componentOf p k) q && eqb (index p k) d) (multiplier p k) (pos 0))
       (λ k l. if-near (eqb (componentOf p k) q && eqb (index p k) d) (multiplier p k) (2 ^ 22) (multiplier-near p k)) in
       if-near (isQueue (kind (rowOf f q))) _ (2 ^ 40) (omega (arith, near, few-terms f p accepted))
 
-  entry-fits : (u : ℕ) → SFits w64 (entry f p u)
+  pub entry-near : (u : ℕ) → natAbs (entry f p u) ≤ 2 ^ 40
   unfolding entry
-  entry-fits u = near-fits (entry f p u) (2 ^ 40) (if-near (ltb (u % 8) (f .colours)) (weight f p (u / 8) (u % 8)) (2 ^ 40) (weight-near (u / 8) (u % 8))) (omega arith)
+  entry-near u = if-near (ltb (u % 8) (f .colours)) (weight f p (u / 8) (u % 8)) (2 ^ 40) (weight-near (u / 8) (u % 8))
 
   -- entry u of the bytes that are written
   pub bytes-back : (rest : List ℕ) (u : ℕ) → u < 8 * f .components → entryOfBytes (upTo (8 * (8 * f .components)) (weightByte (entry f p)) ++ rest) u ≡ entry f p u
-  bytes-back rest u l = entry-back (upTo (8 * (8 * f .components)) (weightByte (entry f p)) ++ rest) u (entry f p u) (entry-fits u) at
+  bytes-back rest u l = entry-back (upTo (8 * (8 * f .components)) (weightByte (entry f p)) ++ rest) u (entry f p u) (near-fits (entry f p u) (2 ^ 40) (entry-near u) (omega arith)) at
     where
       at : (j : ℕ) → j < 8 → getD (upTo (8 * (8 * f .components)) (weightByte (entry f p)) ++ rest) (8 * u + j) 0 ≡ byteOf (entry f p u) j
       at j h =

@@ -1,6 +1,6 @@
 -- What the customer is promised: the theorems that proofs/Demands.antt proves or cites; those of each later request have a file of their own here. Demand 1 is the
--- contracts (src/ of fabric, stepping, checking, ceiling): of each call the answer and every lent byte after it are those of its definition (fabric/specs/Calls.antt,
--- stepping/specs/Calls.antt, checking/specs/Check.antt, ceiling/specs/Ceiling.antt), with nothing required.
+-- contracts (src/ of fabric, stepping, checking, ceiling, many): of each call the answer and every lent byte after it are those of its definition (fabric/specs/Calls.antt,
+-- stepping/specs/Calls.antt, checking/specs/Check.antt, ceiling/specs/Ceiling.antt, many/specs/Many.antt), with nothing required.
 use mathlib.Core.Path.{_≡_}
 use mathlib.Core.Logic.{_↔_}
 use mathlib.Core.List.{List}

@@ -1,7 +1,8 @@
 -- A list by a function of the place, filled from the front, one store a turn. Assumes nothing.
 use mathlib.Core.Path.{_≡_, refl, sym, ap, _∙_}
-use mathlib.Core.List.{List, [], _∷_, _++_}
+use mathlib.Core.List.{List, [], _∷_, _++_, append-assoc, append-nil}
 use Prim.Native.Nat.{ℕ, zero, suc, _+_, _≤_, _<_}
+use native.Mathlib.Nat.{add-zero}
 use native.Mathlib.Numerals.{add-one}
 use native.Mathlib.Decide.{decLt}
 use native.Mathlib.Omega.{arith}
@@ -46,6 +47,14 @@ pub upTo-cong : {X : Type 0} (n : ℕ) (g k : ℕ → X) → ((i : ℕ) → i < 
 unfolding upTo
 upTo-cong zero g k h = refl
 upTo-cong (suc n) g k h = rw (upTo-cong n g k (λ i l. h i (omega arith)), h n (omega arith))
+
+-- in two pieces
+pub upTo-append : {X : Type 0} (g : ℕ → X) (m n : ℕ) → upTo (m + n) g ≡ upTo m g ++ upTo n (λ i. g (m + i))
+unfolding upTo
+upTo-append g m zero = rw (append-nil, add-zero) refl
+upTo-append g m (suc n) =
+    let e : m + suc n ≡ suc (m + n) = omega arith in
+    ap (λ (k : ℕ). upTo k g) e ∙ ap (λ (l : List _). l ++ (g (m + n) ∷ [])) (upTo-append g m n) ∙ append-assoc (upTo m g) (upTo n (λ i. g (m + i))) (g (m + n) ∷ [])
 
 -- a list whose first n entries are g's
 pub filled-is : {X : Type 0} (g : ℕ → X) (s : List X) (d : X) (n : ℕ) → n ≤ length s → ((i : ℕ) → i < n → getD s i d ≡ g i) → s ≡ upTo n g ++ drop n s

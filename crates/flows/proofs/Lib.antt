@@ -2,3 +2,4 @@ pub mod Terms
 pub mod Weights
 pub mod Steps
 pub mod Exactly
+pub mod Verdict

@@ -290,7 +290,7 @@ fn byte_of(v: i64, i: usize) -> u8
 }
 
 // Entry u as 8 bytes, lowest first.
-fn write_entry(out: &mut [u8], u: usize, v: i64)
+pub fn write_entry(out: &mut [u8], u: usize, v: i64)
     requires { ⌜ (u < mostEntries) × (8 * u + 8 ≤ length (now out)) ⌝ }
     ensures { λ _. ⌜ now (out .exit) ≡ laid (now (out .entry)) u v ⌝ }
 {

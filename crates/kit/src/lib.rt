@@ -8,6 +8,7 @@ ghost use Rattle.fabric.specs.Calls.{unpacked, unpackedTable, packed, packedInt
 ghost use Rattle.stepping.specs.Calls.{startVerdict, stateAfterStart, stepVerdict, stateAfterStep, movesAfterStep, runVerdict, stateAfterRun};
 ghost use Rattle.checking.specs.Check.{checkVerdict, checkConstant, bytesAfterCheck};
 ghost use Rattle.ceiling.specs.Ceiling.{ceilingVerdict, ceilingValue};
+ghost use Rattle.many.specs.Many.{manyVerdict, bytesAfterMany};
 
 #[no_mangle]
 pub extern "C" fn fabric_unpack(file: &[u8], table: &mut [u8]) -> u32
@@ -166,4 +167,19 @@ pub extern "C" fn fabric_ceiling_value(
     ensures { λ r. ⌜ r ≡ ceilingValue (now (fabric .entry)) (now (proposal .entry)) queue colour ⌝ }
 {
     ceiling::ceiling(fabric, proposal, queue, colour).ceiling as u64
+}
+
+#[no_mangle]
+pub extern "C" fn fabric_check_many(fabric: &[u8], proposals: &[u8], results: &mut [u8]) -> u32
+    ensures { λ r. ⌜ (r ≡ numberOf (manyVerdict (now (fabric .entry)) (now (proposals .entry)) (length (now (results .entry)) / 8)))
+        × (now (results .exit) ≡ bytesAfterMany (now (fabric .entry)) (now (proposals .entry)) (now (results .entry))) ⌝ }
+{
+    refusals::number_of(many::check_many_bytes(fabric, proposals, &mut *results))
+}
+
+#[no_mangle]
+pub extern "C" fn fabric_check_many_place(fabric: &[u8], proposals: &[u8], results: &[u8]) -> u64
+    ensures { λ r. ⌜ r ≡ placeOf (manyVerdict (now (fabric .entry)) (now (proposals .entry)) (length (now (results .entry)) / 8)) ⌝ }
+{
+    refusals::place_of(many::check_many_answer(fabric, proposals, results.len() / 8)) as u64
 }

@@ -3,7 +3,7 @@ use Prim.Native.Nat.{ℕ}
 use mathlib.Core.Bool.{Bool, cond}
 use mathlib.Core.List.{List, [], _∷_}
 use Rattle.refusals.specs.declared.Refusal.{Refusal}
-use Rattle.refusals.specs.declared.Refusal.the-variants.{FileShort, WrongEdition, CountRange, WrongLength, ByteSum, BadField, ChannelEnds, Circle, ChoiceCount, BadChoice, ProposalLength, NoEquation, FlowLeft, NoWeight, StateShort, BadState, ResultSpace, NotAQueue, WeightNotPositive}
+use Rattle.refusals.specs.declared.Refusal.the-variants.{FileShort, WrongEdition, CountRange, WrongLength, ByteSum, BadField, ChannelEnds, Circle, ChoiceCount, BadChoice, ProposalLength, NoEquation, FlowLeft, NoWeight, StateShort, BadState, ResultSpace, NotAQueue, WeightNotPositive, BadBlocks}
 use Rattle.refusals.specs.declared.Verdict.{Verdict}
 use Rattle.refusals.specs.declared.Verdict.the-variants.{Accepted, Refused}
 
@@ -27,6 +27,7 @@ refusalNumber (BadState k) = 22
 refusalNumber ResultSpace = 23
 refusalNumber NotAQueue = 31
 refusalNumber WeightNotPositive = 32
+refusalNumber BadBlocks = 33
 
 abbrev pub refusalPlace : Refusal → ℕ
 refusalPlace FileShort = 0
@@ -48,6 +49,7 @@ refusalPlace (BadState k) = k
 refusalPlace ResultSpace = 0
 refusalPlace NotAQueue = 0
 refusalPlace WeightNotPositive = 0
+refusalPlace BadBlocks = 0
 
 -- Success is 0 with place 0.
 abbrev pub numberOf : Verdict → ℕ

@@ -24,6 +24,7 @@ pub enum Refusal {
     ResultSpace,
     NotAQueue,
     WeightNotPositive,
+    BadBlocks,
 }
 
 // What a call comes to.
@@ -55,6 +56,7 @@ fn refusal_number(r: Refusal) -> u32
         Refusal::ResultSpace => 23,
         Refusal::NotAQueue => 31,
         Refusal::WeightNotPositive => 32,
+        Refusal::BadBlocks => 33,
     }
 }
 
@@ -81,6 +83,7 @@ fn refusal_place(r: Refusal) -> usize
         Refusal::ResultSpace => 0,
         Refusal::NotAQueue => 0,
         Refusal::WeightNotPositive => 0,
+        Refusal::BadBlocks => 0,
     }
 }
 

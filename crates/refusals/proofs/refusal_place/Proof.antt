@@ -61,6 +61,9 @@ enum-told-12 c = search needs
 enum-told-13 : tie.Need-enum-told-13
 enum-told-13 c = search needs
 
+enum-told-14 : tie.Need-enum-told-14
+enum-told-14 c = search needs
+
 returns : tie.Need-returns
 returns c = ap refusalPlace (sym (c .enum-told .given .1))
 
@@ -118,6 +121,9 @@ returns-18 c = ap refusalPlace (sym (c .enum-told12 .given .1))
 returns-19 : tie.Need-returns-19
 returns-19 c = ap refusalPlace (sym (c .enum-told13 .given .1))
 
+returns-20 : tie.Need-returns-20
+returns-20 c = ap refusalPlace (sym (c .enum-told14 .given .1))
+
 pub refusal-place-spec : {M : Type 1} → statement M
 refusal-place-spec =
     tie.close
@@ -141,6 +147,7 @@ refusal-place-spec =
     enum-told-11
     enum-told-12
     enum-told-13
+    enum-told-14
     returns
     returns-2
     returns-3
@@ -159,4 +166,5 @@ refusal-place-spec =
     returns-16
     returns-17
     returns-18
-    returns-19)
+    returns-19
+    returns-20)
