@@ -1,6 +1,7 @@
 //! The check of a proposed sum.
 
 use crate::component::{Kind, MOST_COLOURS};
+use crate::entries::{write_entries, ENTRY};
 use crate::equations::equation;
 use crate::fabric::Fabric;
 use crate::packed::read_file;
@@ -8,23 +9,18 @@ use crate::refusal::Refusal;
 use crate::state::{count_of, ComponentState};
 use crate::terms::read_proposal;
 
-/// How many bytes a weight takes, lowest first.
-const WEIGHT: usize = 8;
-
 /// How many bytes the weights of a fabric take.
 pub fn weights_length(components: usize) -> usize {
-    WEIGHT * MOST_COLOURS * components
+    ENTRY * MOST_COLOURS * components
 }
 
 /// Writes the weights of an accepted proposal and hands back its constant K.
 pub fn check(file: &[u8], proposal: &[u8], weights: &mut [u8]) -> Result<i64, Refusal> {
     let sum = accepted_sum(file, proposal)?;
     let entries = weights
-        .get_mut(..WEIGHT * sum.weights.len())
+        .get_mut(..ENTRY * sum.weights.len())
         .ok_or(Refusal::ResultSpace)?;
-    for (entry, weight) in entries.as_chunks_mut().0.iter_mut().zip(&sum.weights) {
-        *entry = weight.to_le_bytes();
-    }
+    write_entries(entries, &sum.weights);
     Ok(sum.constant)
 }
 

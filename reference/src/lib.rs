@@ -2,16 +2,20 @@
 //!
 //! The calls on files are `unpack` and `pack`, those on a state `start`, `step` and `run`, and
 //! `check` judges a proposed sum, from which `ceiling` works out the most that a queue can hold of
-//! a colour. Every call answers with a `Result`; a `Refusal` knows its number and its place.
+//! a colour; `check_many` judges the blocks of a file, a proposed sum each. Every call answers with
+//! a `Result`; a `Refusal` knows its number and its place.
 
 // The document's rules and calls.
+pub mod blocks;
 pub mod ceiling;
 pub mod channel_ends;
 pub mod check;
+pub mod check_many;
 pub mod choices;
 pub mod circle;
 pub mod component;
 pub mod dependences;
+pub mod entries;
 pub mod equations;
 pub mod fabric;
 pub mod file_calls;
@@ -40,6 +44,7 @@ mod tests;
 
 pub use ceiling::ceiling;
 pub use check::check;
+pub use check_many::check_many;
 pub use component::{Component, Kind};
 pub use fabric::Fabric;
 pub use file_calls::{pack, unpack, Unpacked};

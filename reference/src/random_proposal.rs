@@ -64,6 +64,21 @@ impl Equations {
         terms
     }
 
+    /// Terms in which all flows cancel and terms without effect, together just so many, in any
+    /// order. `None` if that is too few.
+    pub fn just_so_many(&self, random: &mut Random, count: usize) -> Option<Vec<Term>> {
+        let short = self.cancelling.iter().filter(|terms| terms.len() <= count);
+        let short: Vec<_> = short.collect();
+        if short.is_empty() {
+            return None;
+        }
+        let mut terms = random.pick(&short).clone();
+        let added = count - terms.len();
+        self.add_idle_terms(random, &mut terms, added);
+        random.shuffle(&mut terms);
+        Some(terms)
+    }
+
     /// The multiplier of each equation in some combinations together.
     fn random_totals(&self, random: &mut Random) -> BTreeMap<Name, i64> {
         let mut totals = BTreeMap::new();

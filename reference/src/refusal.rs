@@ -40,6 +40,8 @@ pub enum Refusal {
     NotAQueue,
     /// Weight not above 0.
     WeightNotPositive,
+    /// More than 64 blocks, a count over 4,096, or blocks that do not fill the file.
+    BadBlocks,
 }
 
 impl Refusal {
@@ -64,6 +66,7 @@ impl Refusal {
             Refusal::ResultSpace => 23,
             Refusal::NotAQueue => 31,
             Refusal::WeightNotPositive => 32,
+            Refusal::BadBlocks => 33,
         }
     }
 

@@ -1,6 +1,7 @@
 //! The document's cases, and some around them.
 
 mod ceiling;
+mod check_many;
 mod choices;
 mod circles;
 mod credit_loop;
@@ -12,6 +13,7 @@ mod listing;
 mod order;
 mod order_of_ceiling;
 mod order_of_check;
+mod order_of_check_many;
 mod order_of_step;
 mod panels;
 mod places;
@@ -109,6 +111,17 @@ fn check_answer(fabric: &Fabric, terms: &[Term]) -> (u32, u64) {
         &write_proposal(terms),
         &mut weights,
     ))
+}
+
+/// Entries of 8 bytes, lowest first.
+fn entries(memory: &[u8]) -> Vec<i64> {
+    let entries = memory.as_chunks().0.iter();
+    entries.map(|bytes| i64::from_le_bytes(*bytes)).collect()
+}
+
+/// A block whose count is these two bytes.
+fn block(count: [u8; 2], terms: &[Term]) -> Vec<u8> {
+    [&count[..], &write_proposal(terms)].concat()
 }
 
 /// The ceiling, or number and place of the refusal.

@@ -1,6 +1,6 @@
 //! How terms add up.
 
-use super::{check_answer, term};
+use super::{check_answer, entries, term};
 use crate::check;
 use crate::component::Component;
 use crate::fabric::Fabric;
@@ -11,12 +11,8 @@ use crate::terms::{write_proposal, Term};
 fn accepted(fabric: &Fabric, terms: &[Term]) -> (Vec<(usize, i64)>, i64) {
     let mut weights = vec![0xA5; 64 * fabric.components.len()];
     let constant = check(&fabric.to_file(), &write_proposal(terms), &mut weights);
-    let entries = weights
-        .as_chunks()
-        .0
-        .iter()
-        .map(|entry| i64::from_le_bytes(*entry));
-    let named = entries.enumerate().filter(|&(_, weight)| weight != 0);
+    let entries = entries(&weights).into_iter().enumerate();
+    let named = entries.filter(|&(_, weight)| weight != 0);
     (named.collect(), constant.expect("an accepted proposal"))
 }
 

@@ -1,5 +1,7 @@
-//! Times the kit's static library, called over C, against the second program.
+//! Times the kit's static library, called over C, against the second program. A row `one / other`
+//! has two calls of the library instead.
 
+mod block_calls;
 mod fabric_calls;
 mod file_calls;
 #[path = "../shared/library.rs"]
@@ -25,6 +27,7 @@ fn main() {
         report(&name, "pack", time_pack(&fabric));
         fabric_calls::time_all(&fabric, |call, times| report(&name, call, times));
         sum_calls::time_all(&fabric, |call, times| report(&name, call, times));
+        block_calls::time_all(&fabric, |call, times| report(&name, call, times));
     }
 }
 

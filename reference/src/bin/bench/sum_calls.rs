@@ -45,20 +45,25 @@ fn time_check(fabric: &Fabric, file: &[u8], proposal: &[u8]) -> Times {
     let mut weights = vec![0; weights_length(fabric.components.len())];
     let mut second_weights = weights.clone();
     time_alternately(
-        || unsafe {
-            let proposal = black_box(proposal);
-            let (weights, weights_len) = (weights.as_mut_ptr(), weights.len());
-            fabric_check(
-                file.as_ptr(),
-                file.len(),
-                proposal.as_ptr(),
-                proposal.len(),
-                weights,
-                weights_len,
-            ) == 0
-        },
+        || library_check(file, proposal, &mut weights),
         || check(file, black_box(proposal), &mut second_weights).is_ok(),
     )
+}
+
+/// Whether the library accepts the proposal.
+pub fn library_check(file: &[u8], proposal: &[u8], weights: &mut [u8]) -> bool {
+    let proposal = black_box(proposal);
+    let number = unsafe {
+        fabric_check(
+            file.as_ptr(),
+            file.len(),
+            proposal.as_ptr(),
+            proposal.len(),
+            weights.as_mut_ptr(),
+            weights.len(),
+        )
+    };
+    number == 0
 }
 
 fn time_ceiling(file: &[u8], proposal: &[u8], (queue, colour): Place) -> Times {

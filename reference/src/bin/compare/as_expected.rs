@@ -37,6 +37,12 @@ impl Trial {
                 number_and_place(0, 0)?;
                 same("ceiling and the documents' own", answer.ceiling, *ceiling)
             }
+            Expected::Blocks(texts) => {
+                number_and_place(0, 0)?;
+                let blocks = self.judged_blocks();
+                let found: String = blocks.iter().map(|block| block.listing()).collect();
+                same("blocks and the documents' own", &found, &texts.concat())
+            }
         }
     }
 }

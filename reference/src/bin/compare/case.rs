@@ -14,6 +14,7 @@ pub enum Call {
     Run,
     Check,
     Ceiling { queue: u64, colour: u64 },
+    CheckMany,
 }
 
 /// What a part of the memory holds before a call, and where its guard page lies.
@@ -39,9 +40,9 @@ impl Lent {
 #[derive(Clone)]
 pub struct LentCall {
     pub call: Call,
-    /// The choices or the proposal.
+    /// The choices, the proposal or the blocks.
     pub given: Lent,
-    /// The memory for a table, a file, moves or weights.
+    /// The memory for a table, a file, moves, weights or the results of blocks.
     pub result: Lent,
     pub expected: Expected,
 }
@@ -77,6 +78,8 @@ pub enum Expected {
     Listing(String),
     /// Accepted, with this ceiling.
     Ceiling(u64),
+    /// Accepted, and each block's result reads so.
+    Blocks(Vec<String>),
 }
 
 impl Expected {
@@ -90,13 +93,14 @@ pub struct Case {
     pub state: Lent,
     /// Each call gets fabric and state as the one before left them.
     pub calls: Vec<LentCall>,
-    /// Whether an accepted unpack or pack goes through the other call and must come back.
-    pub round_trip: bool,
+    /// Whether what an accepted call gives is tested by other calls of the library: an unpack or a
+    /// pack goes through the other call and must come back, each block goes through check.
+    pub by_other_calls: bool,
 }
 
 impl fmt::Display for Case {
     fn fmt(&self, out: &mut fmt::Formatter) -> fmt::Result {
-        writeln!(out, "round trip: {}", self.round_trip)?;
+        writeln!(out, "by other calls: {}", self.by_other_calls)?;
         writeln!(out, "fabric or table {}", self.fabric)?;
         write!(out, "state {}", self.state)?;
         if let [only] = &self.calls[..] {
@@ -116,7 +120,7 @@ impl fmt::Display for LentCall {
         } = self;
         write!(
             out,
-            "{call:?}\nchoices or proposal {given}\nresult's memory {result}"
+            "{call:?}\nchoices, proposal or blocks {given}\nresult's memory {result}"
         )
     }
 }

@@ -5,7 +5,7 @@ use std::fmt;
 use crate::case::Call;
 
 /// Each call with the numbers it can come to, in the order of its tests.
-const CALLS: [(&str, &[u32]); 7] = [
+const CALLS: [(&str, &[u32]); 8] = [
     ("unpack", &[0, 1, 2, 3, 4, 5, 6, 7, 8, 23]),
     ("pack", &[0, 4, 3, 6, 7, 8, 23]),
     ("start", &[0, 1, 2, 3, 4, 5, 6, 7, 8, 21]),
@@ -16,6 +16,7 @@ const CALLS: [(&str, &[u32]); 7] = [
         "ceiling",
         &[0, 1, 2, 3, 4, 5, 6, 7, 8, 11, 12, 13, 14, 31, 32],
     ),
+    ("check_many", &[0, 1, 2, 3, 4, 5, 6, 7, 8, 33, 23]),
 ];
 
 fn column(call: Call) -> usize {
@@ -27,10 +28,11 @@ fn column(call: Call) -> usize {
         Call::Run => 4,
         Call::Check => 5,
         Call::Ceiling { .. } => 6,
+        Call::CheckMany => 7,
     }
 }
 
-const HIGHEST: usize = 32;
+const HIGHEST: usize = 33;
 
 type Reached = [u64; HIGHEST + 1];
 
@@ -74,7 +76,7 @@ impl fmt::Display for Counts {
     fn fmt(&self, out: &mut fmt::Formatter) -> fmt::Result {
         write!(out, "number")?;
         for (call, ..) in self.columns() {
-            write!(out, "{call:>10}")?;
+            write!(out, "{call:>11}")?;
         }
         for number in 0..=HIGHEST as u32 {
             let has = |numbers: &[u32]| numbers.contains(&number);
@@ -84,9 +86,9 @@ impl fmt::Display for Counts {
             write!(out, "\n{number:>6}")?;
             for (_, numbers, reached) in self.columns() {
                 if has(numbers) {
-                    write!(out, "{:>10}", reached[number as usize])?;
+                    write!(out, "{:>11}", reached[number as usize])?;
                 } else {
-                    write!(out, "{:>10}", "-")?;
+                    write!(out, "{:>11}", "-")?;
                 }
             }
         }

@@ -5,18 +5,18 @@ use reference::terms::{write_proposal, Term};
 
 use crate::case::{Call, Case, Expected, Lent, LentCall};
 
-const LISTING: &str = "Q 2 0 1\nQ 5 0 1\nSUM 2\n";
+pub const LISTING: &str = "Q 2 0 1\nQ 5 0 1\nSUM 2\n";
 pub const SOURCE_CHOOSES: [u8; 6] = [1, 0, 0, 0, 0, 0];
 const SINK_CHOOSES: [u8; 6] = [0, 0, 0, 0, 1, 0];
 const NO_SUCH_CHOICE: [u8; 6] = [2, 0, 0, 0, 0, 0];
+pub const NO_EQUATION: Term = Term {
+    component: 0,
+    index: 0,
+    multiplier: 1,
+};
 
 pub fn credit_loop_cases() -> Vec<Case> {
     let terms = credit_terms();
-    let no_equation = Term {
-        component: 0,
-        index: 0,
-        multiplier: 1,
-    };
     let mut count_of_3 = vec![0; 64 * 6];
     count_of_3[64 * 2] = 3;
     vec![
@@ -36,7 +36,7 @@ pub fn credit_loop_cases() -> Vec<Case> {
             check(&terms, Expected::Listing(LISTING.to_string())),
             check(&terms[..4], Expected::NumberAndPlace(13, 24)),
             check(&[], Expected::NumberAndPlace(14, 0)),
-            check(&[no_equation], Expected::NumberAndPlace(12, 0)),
+            check(&[NO_EQUATION], Expected::NumberAndPlace(12, 0)),
         ]),
         Case {
             state: Lent::new(count_of_3),
@@ -50,7 +50,7 @@ pub fn case(calls: Vec<LentCall>) -> Case {
         fabric: Lent::new(credit_loop().to_file()),
         state: Lent::new(vec![0xA5; 64 * 6]),
         calls,
-        round_trip: false,
+        by_other_calls: false,
     }
 }
 

@@ -12,6 +12,7 @@ use reference::Fabric;
 
 use crate::case::{Call, Case, Expected, Lent, LentCall};
 use crate::ceiling_cases::ceiling_cases;
+use crate::check_many_cases::check_many_cases;
 use crate::credit_loop_cases::credit_loop_cases;
 use crate::panel_cases::panel_cases;
 use crate::random_lists::long_run;
@@ -20,6 +21,7 @@ pub fn fixed_cases() -> Vec<Case> {
     let mut cases = file_cases();
     cases.extend(credit_loop_cases());
     cases.extend(ceiling_cases());
+    cases.extend(check_many_cases());
     cases.extend(panel_cases());
     cases.push(heaviest_sum());
     cases.extend(long_runs());
@@ -43,7 +45,7 @@ fn heaviest_sum() -> Case {
         fabric: Lent::new(fabric.to_file()),
         state: Lent::nothing(),
         calls: vec![LentCall::plain(Call::Check, &proposal, 64, listing)],
-        round_trip: false,
+        by_other_calls: false,
     }
 }
 
@@ -97,7 +99,7 @@ fn fixed_case(call: Call, input: Vec<u8>, space: usize, expected: Expected) -> C
         fabric: Lent::new(input),
         state: Lent::nothing(),
         calls: vec![LentCall::plain(call, &[], space, expected)],
-        round_trip: true,
+        by_other_calls: true,
     }
 }
 

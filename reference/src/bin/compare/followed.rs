@@ -9,6 +9,7 @@ use crate::list::List;
 #[derive(Default)]
 pub struct Followed {
     sums: SumCounts,
+    block_sums: SumCounts,
     ceilings: CeilingCounts,
     below_capacity: CeilingCounts,
 }
@@ -16,6 +17,8 @@ pub struct Followed {
 impl Followed {
     pub fn add(&mut self, list: &List) {
         list.sums.iter().for_each(|sum| self.sums.add(sum));
+        let block_sums = list.block_sums.iter();
+        block_sums.for_each(|sum| self.block_sums.add(sum));
         for ceiling in &list.ceilings {
             self.ceilings.add(ceiling);
             if ceiling.below_capacity {
@@ -28,6 +31,7 @@ impl Followed {
     pub fn too_seldom(&self, least: u64) -> Vec<(&'static str, u64)> {
         let wanted = [
             ("accepted sums", self.sums.sums),
+            ("accepted sums of blocks", self.block_sums.sums),
             ("ceilings", self.ceilings.ceilings),
             ("ceilings below the capacity", self.below_capacity.ceilings),
         ];
@@ -39,6 +43,7 @@ impl Followed {
 impl fmt::Display for Followed {
     fn fmt(&self, out: &mut fmt::Formatter) -> fmt::Result {
         writeln!(out, "accepted sums: {}", self.sums)?;
+        writeln!(out, "accepted sums of blocks: {}", self.block_sums)?;
         writeln!(out, "ceilings: {}", self.ceilings)?;
         write!(out, "ceilings below the capacity: {}", self.below_capacity)
     }

@@ -4,11 +4,12 @@ use crate::answer::Answer;
 use crate::case::Call;
 use crate::lent_memory::LentMemory;
 use crate::library::{
-    fabric_ceiling, fabric_check, fabric_pack, fabric_run, fabric_start, fabric_step, fabric_unpack,
+    fabric_ceiling, fabric_check, fabric_check_many, fabric_pack, fabric_run, fabric_start,
+    fabric_step, fabric_unpack,
 };
 use crate::sisters::{
-    fabric_ceiling_place, fabric_ceiling_value, fabric_check_constant, fabric_check_place,
-    fabric_pack_place, fabric_run_place, fabric_start_place, fabric_step_place,
+    fabric_ceiling_place, fabric_ceiling_value, fabric_check_constant, fabric_check_many_place,
+    fabric_check_place, fabric_pack_place, fabric_run_place, fabric_start_place, fabric_step_place,
     fabric_unpack_channels, fabric_unpack_colours, fabric_unpack_place,
 };
 use crate::trial::PARTS;
@@ -43,6 +44,9 @@ pub fn sisters(call: Call, parts: &[LentMemory; PARTS]) -> Answer {
                     fabric_ceiling_value(fabric, fabric_len, given, given_len, queue, colour);
                 fabric_ceiling_place(fabric, fabric_len, given, given_len, queue, colour)
             }
+            Call::CheckMany => {
+                fabric_check_many_place(fabric, fabric_len, given, given_len, result, result_len)
+            }
         }
     };
     answer
@@ -66,6 +70,9 @@ pub fn call(call: Call, parts: &mut [LentMemory; PARTS]) -> u32 {
             Call::Check => fabric_check(fabric, fabric_len, given, given_len, result, result_len),
             Call::Ceiling { queue, colour } => {
                 fabric_ceiling(fabric, fabric_len, given, given_len, queue, colour)
+            }
+            Call::CheckMany => {
+                fabric_check_many(fabric, fabric_len, given, given_len, result, result_len)
             }
         }
     }

@@ -12,6 +12,7 @@ use crate::followed_sums::FollowedSum;
 pub struct List {
     started: bool,
     pub sums: Vec<FollowedSum>,
+    pub block_sums: Vec<FollowedSum>,
     pub ceilings: Vec<FollowedCeiling>,
 }
 
@@ -25,8 +26,9 @@ impl List {
             return Ok(());
         }
         let states = state.as_chunks::<COMPONENT_STATE>().0;
-        let (mut sums, mut ceilings) = (self.sums.iter_mut(), self.ceilings.iter_mut());
+        let mut sums = self.sums.iter_mut().chain(&mut self.block_sums);
         sums.try_for_each(|sum| sum.after(listed, states))?;
+        let mut ceilings = self.ceilings.iter_mut();
         ceilings.try_for_each(|ceiling| ceiling.after(listed, states))
     }
 }

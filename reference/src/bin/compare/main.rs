@@ -2,11 +2,14 @@
 
 mod answer;
 mod as_expected;
+mod block_counts;
 mod case;
 mod ceiling_cases;
+mod check_many_cases;
 mod counts;
 mod crash;
 mod credit_loop_cases;
+mod damaged_blocks;
 mod damaged_choices;
 #[path = "../shared/damaged_fabric.rs"]
 mod damaged_fabric;
@@ -17,10 +20,13 @@ mod damaged_proposal;
 mod damaged_state;
 mod damaged_table;
 mod difference;
+mod each_alone;
 mod fixed_cases;
+mod follow_accepted;
 mod followed;
 mod followed_ceilings;
 mod followed_sums;
+mod judged_block;
 mod lent_memory;
 #[path = "../shared/library.rs"]
 mod library;
@@ -31,6 +37,7 @@ mod panel_cases;
 mod random_calls;
 mod random_cases;
 mod random_ceilings;
+mod random_check_many;
 #[path = "../shared/random_fabrics.rs"]
 mod random_fabrics;
 mod random_lists;
@@ -51,8 +58,8 @@ use options::{Options, USAGE};
 use random_cases::random_case;
 use trial::Trial;
 
-/// How often each number of each call must be reached, and how many accepted sums and ceilings must
-/// be followed through a list of calls.
+/// How often each number of each call must be reached, how many blocks must be judged in each way,
+/// and how many accepted sums and ceilings must be followed through a list of calls.
 const LEAST: u64 = 1000;
 
 fn main() -> ExitCode {
@@ -115,6 +122,7 @@ fn compare(options: &Options) -> ExitCode {
         trial.counts.total()
     );
     println!("{}", trial.followed);
+    println!("{}", trial.blocks);
     println!("{}", trial.counts);
     verdict(found, &too_few(&trial))
 }
@@ -127,6 +135,8 @@ fn too_few(trial: &Trial) -> Vec<String> {
         .collect();
     let seldom = trial.followed.too_seldom(LEAST).into_iter();
     lines.extend(seldom.map(|(what, count)| format!("{what} followed through a list: {count}")));
+    let too_few = trial.blocks.too_few(LEAST);
+    lines.extend(too_few.map(|(what, count)| format!("blocks {what}: {count}")));
     lines
 }
 

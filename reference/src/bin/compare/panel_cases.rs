@@ -1,4 +1,5 @@
-//! The panels of the source documents: each is packed, its sums are checked and it is run.
+//! The panels of the source documents: each is packed, its sums are checked, one by one and
+//! together, and it is run.
 
 use reference::check::weights_length;
 use reference::panels::{panels, Panel};
@@ -6,6 +7,7 @@ use reference::random::Random;
 use reference::state::COMPONENT_STATE;
 
 use crate::case::{Call, Case, Expected, Lent, LentCall};
+use crate::check_many_cases::{check_many, NO_TERMS};
 use crate::random_lists::{list_on, long_run};
 
 /// How many random lists of calls a panel goes through.
@@ -33,7 +35,7 @@ fn packed(panel: &Panel) -> Case {
         fabric: Lent::new(panel.fabric.to_table()),
         state: Lent::nothing(),
         calls: vec![LentCall::plain(call, &[], panel.file.len(), written)],
-        round_trip: true,
+        by_other_calls: true,
     }
 }
 
@@ -45,10 +47,23 @@ fn checked(panel: &Panel) -> Case {
     });
     let mut calls = vec![LentCall::accepted_start()];
     calls.extend(checks);
+    calls.push(checked_together(panel));
     Case {
         fabric: Lent::new(panel.file.clone()),
         state: Lent::new(vec![0xA5; COMPONENT_STATE * panel.fabric.components.len()]),
         calls,
-        round_trip: false,
+        by_other_calls: true,
     }
+}
+
+/// Each sum is a block before and one after a block without terms.
+fn checked_together(panel: &Panel) -> LentCall {
+    let twice = panel.sums.iter().map(|sum| {
+        let blocks = [sum.terms.clone(), Vec::new(), sum.terms.clone()];
+        let texts = [&sum.listing, NO_TERMS, &sum.listing].map(str::to_string);
+        (blocks, texts)
+    });
+    let (blocks, texts): (Vec<_>, Vec<_>) = twice.unzip();
+    let expected = Expected::Blocks(texts.concat());
+    check_many(panel.fabric.components.len(), &blocks.concat(), expected)
 }

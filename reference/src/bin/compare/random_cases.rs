@@ -10,16 +10,18 @@ use crate::damaged_table::random_table;
 use crate::lent_memory::Guard;
 use crate::random_calls::random_fabric_call;
 use crate::random_ceilings::random_ceiling_case;
+use crate::random_check_many::random_check_many_case;
 use crate::random_lists::random_list;
 
 pub fn random_case(random: &mut Random) -> Case {
     match random.below(100) {
-        0..38 => random_file_case(random),
-        38..50 => random_fabric_call(random, Call::Start),
-        50..63 => random_fabric_call(random, Call::Step),
-        63..75 => random_fabric_call(random, Call::Run),
-        75..87 => random_fabric_call(random, Call::Check),
-        87..98 => random_ceiling_case(random),
+        0..36 => random_file_case(random),
+        36..47 => random_fabric_call(random, Call::Start),
+        47..59 => random_fabric_call(random, Call::Step),
+        59..71 => random_fabric_call(random, Call::Run),
+        71..83 => random_fabric_call(random, Call::Check),
+        83..93 => random_ceiling_case(random),
+        93..98 => random_check_many_case(random),
         _ => random_list(random),
     }
 }
@@ -36,7 +38,7 @@ fn random_file_case(random: &mut Random) -> Case {
     };
     let result = random_memory(random, exact_space);
     Case {
-        round_trip: random.percent(15),
+        by_other_calls: random.percent(15),
         ..one_call(random, call, [input, Vec::new(), Vec::new(), result])
     }
 }
@@ -53,7 +55,7 @@ pub fn one_call(random: &mut Random, call: Call, parts: [Vec<u8>; 4]) -> Case {
             result,
             expected: Expected::Nothing,
         }],
-        round_trip: false,
+        by_other_calls: false,
     }
 }
 

@@ -1,5 +1,5 @@
-//! Lists of calls on one state, as a start left it: accepted and refused ones mixed, with checks
-//! and ceilings between them.
+//! Lists of calls on one state, as a start left it: accepted and refused ones mixed, with checks,
+//! also of many proposals, and ceilings between them.
 
 use reference::check::weights_length;
 use reference::random::Random;
@@ -10,16 +10,22 @@ use reference::terms::write_proposal;
 use reference::{Fabric, Kind};
 
 use crate::case::{Call, Case, Expected, LentCall};
+use crate::check_many_cases::check_many;
+use crate::damaged_blocks::random_blocks;
 use crate::damaged_choices::good_or_damaged_choices;
 use crate::damaged_proposal::random_proposal;
 use crate::random_calls::random_step_count;
 use crate::random_cases::{lent, random_memory};
 use crate::random_ceilings::{places_above_0, random_ceiling};
+use crate::random_check_many::blocks_and_results;
 use crate::random_fabrics::good_fabric;
-use crate::trial::ROOM;
 
-/// How many steps a long run takes.
+/// How many steps a long run takes, and how many bytes of choices a piece of it at the most.
 const LONG: usize = 100_000;
+const PIECE: usize = 1 << 17;
+
+/// How many blocks are followed from the beginning at the most.
+const BLOCKS: usize = 4;
 
 /// For how many weights of a sum at most the ceiling is followed from the beginning.
 const CEILINGS: usize = 4;
@@ -44,11 +50,14 @@ fn draw_small_queues(random: &mut Random, fabric: &mut Fabric) {
     }
 }
 
-/// Begins with a start that is accepted and a proposal that most often is.
+/// Begins with a start that is accepted and a proposal that most often is, and sometimes blocks.
 pub fn list_on(random: &mut Random, fabric: &Fabric) -> Case {
     let equations = Equations::of(fabric);
     let mut calls = vec![LentCall::accepted_start()];
     calls.extend(cancelling_calls(random, fabric, &equations));
+    if random.percent(30) {
+        calls.push(few_blocks(random, fabric, &equations));
+    }
     for _ in 0..random.pick(&[0, 1, 5, 20]) {
         calls.push(random_call(random, fabric, &equations));
     }
@@ -63,7 +72,7 @@ pub fn long_run(random: &mut Random, fabric: &Fabric) -> Case {
     calls.extend((0..3).flat_map(|_| cancelling_calls(random, fabric, &equations)));
     let mut left = LONG;
     while left > 0 {
-        let piece = random.between(1, left.min(ROOM / fabric.components.len()));
+        let piece = random.between(1, left.min(PIECE / fabric.components.len()));
         let choices = random_choices(random, fabric, piece);
         calls.push(LentCall::plain(Call::Run, &choices, 0, Expected::ACCEPTED));
         left -= piece;
@@ -77,7 +86,7 @@ fn case_on(random: &mut Random, fabric: &Fabric, past: usize, calls: Vec<LentCal
         fabric: lent(random, fabric.to_file()),
         state: lent(random, state),
         calls,
-        round_trip: false,
+        by_other_calls: false,
     }
 }
 
@@ -96,6 +105,12 @@ fn cancelling_calls(random: &mut Random, fabric: &Fabric, equations: &Equations)
     [check].into_iter().chain(ceilings).collect()
 }
 
+fn few_blocks(random: &mut Random, fabric: &Fabric, equations: &Equations) -> LentCall {
+    let count = random.between(1, BLOCKS);
+    let blocks = random_blocks(random, equations, count);
+    check_many(fabric.components.len(), &blocks, Expected::ACCEPTED)
+}
+
 fn random_call(random: &mut Random, fabric: &Fabric, equations: &Equations) -> LentCall {
     let none = Vec::new;
     let (call, given, result) = match random.below(100) {
@@ -105,15 +120,19 @@ fn random_call(random: &mut Random, fabric: &Fabric, equations: &Equations) -> L
             let moves = random_memory(random, fabric.channels);
             (Call::Step, choices, moves)
         }
-        60..95 => {
+        60..94 => {
             let steps = random_step_count(random);
             let choices = good_or_damaged_choices(random, fabric, steps);
             (Call::Run, choices, none())
         }
-        95..98 => {
+        94..97 => {
             let proposal = random_proposal(random, equations);
             let weights = random_memory(random, weights_length(fabric.components.len()));
             (Call::Check, proposal, weights)
+        }
+        97..98 => {
+            let (blocks, results) = blocks_and_results(random, fabric, equations);
+            (Call::CheckMany, blocks, results)
         }
         _ => {
             let proposal = random_proposal(random, equations);

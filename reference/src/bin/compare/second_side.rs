@@ -1,6 +1,6 @@
 //! The second program's side of a call.
 
-use reference::{ceiling, check, pack, run, start, step, unpack};
+use reference::{ceiling, check, check_many, pack, run, start, step, unpack};
 
 use crate::answer::Answer;
 use crate::case::Call;
@@ -36,5 +36,6 @@ pub fn call(call: Call, parts: &mut [Vec<u8>; PARTS]) -> Answer {
                 ..Answer::of(&answer)
             }
         }
+        Call::CheckMany => Answer::of(&check_many(fabric, given, result)),
     }
 }

@@ -67,6 +67,14 @@ extern "C" {
         weights: *const u8,
         weights_len: usize,
     ) -> i64;
+    pub fn fabric_check_many_place(
+        fabric: *const u8,
+        fabric_len: usize,
+        proposals: *const u8,
+        proposals_len: usize,
+        results: *const u8,
+        results_len: usize,
+    ) -> u64;
     pub fn fabric_ceiling_place(
         fabric: *const u8,
         fabric_len: usize,

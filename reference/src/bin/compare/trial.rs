@@ -1,37 +1,31 @@
 //! Runs a case on both sides and compares all that comes back.
 
-use reference::check::Sum;
-use reference::component::MOST_COLOURS;
-use reference::packed::read_file;
-
 use crate::answer::Answer;
+use crate::block_counts::BlockCounts;
 use crate::case::{Call, Case, Lent};
 use crate::counts::Counts;
 use crate::difference::{hex, same, same_bytes, Difference};
 use crate::followed::Followed;
-use crate::followed_ceilings::FollowedCeiling;
-use crate::followed_sums::FollowedSum;
 use crate::lent_memory::LentMemory;
 use crate::list::List;
 use crate::{library_side, second_side};
 
 /// At least as much as any case lends in one piece.
-pub const ROOM: usize = 1 << 17;
+const ROOM: usize = 1 << 21;
 
-/// Where the header has N.
-const COMPONENT_COUNT: usize = 1;
-
-/// The parts of lent memory: fabric or table, state, choices or proposal, and a result's memory.
+/// The parts of lent memory: fabric or table, state, choices, proposal or blocks, and a result's
+/// memory.
 pub const PARTS: usize = 4;
 pub const FABRIC: usize = 0;
 pub const STATE: usize = 1;
-const GIVEN: usize = 2;
+pub const GIVEN: usize = 2;
 pub const RESULT: usize = 3;
 
 pub struct Trial {
     pub parts: [LentMemory; PARTS],
     pub counts: Counts,
     pub followed: Followed,
+    pub blocks: BlockCounts,
 }
 
 impl Trial {
@@ -40,6 +34,7 @@ impl Trial {
             parts: std::array::from_fn(|_| LentMemory::new(ROOM)),
             counts: Counts::new(),
             followed: Followed::default(),
+            blocks: BlockCounts::default(),
         }
     }
 
@@ -66,8 +61,8 @@ impl Trial {
             }
             list.after(lent.call, last, self.parts[STATE].bytes())
                 .map_err(describe)?;
-            if case.round_trip && last == 0 {
-                self.round_trip(lent.call, case, &answer)
+            if case.by_other_calls && last == 0 {
+                self.by_other_calls(lent.call, case, &answer)
                     .map_err(describe)?;
             }
         }
@@ -75,18 +70,15 @@ impl Trial {
         Ok(last)
     }
 
-    /// Takes up what an accepted check or ceiling has given.
-    fn follow(&self, list: &mut List, call: Call, answer: &Answer) {
+    fn by_other_calls(
+        &mut self,
+        call: Call,
+        case: &Case,
+        answer: &Answer,
+    ) -> Result<(), Difference> {
         match call {
-            Call::Check => list.sums.push(FollowedSum::new(self.accepted_sum(answer))),
-            Call::Ceiling { queue, colour } => {
-                let (queue, colour) = (queue as usize, colour as usize);
-                let fabric = read_file(self.parts[FABRIC].bytes()).expect("an accepted file");
-                let capacity = fabric.components[queue].capacity;
-                let ceiling = FollowedCeiling::new(queue, colour, answer.ceiling, capacity);
-                list.ceilings.push(ceiling);
-            }
-            _ => {}
+            Call::CheckMany => self.each_alone(),
+            _ => self.round_trip(call, case, answer),
         }
     }
 
@@ -110,20 +102,16 @@ impl Trial {
         Ok(Answer { number, ..library })
     }
 
+    /// The library's answer, without the second program.
+    pub fn library_alone(&mut self, call: Call) -> Answer {
+        let answer = library_side::sisters(call, &self.parts);
+        let number = library_side::call(call, &mut self.parts);
+        Answer { number, ..answer }
+    }
+
     /// Whether the lent memory now holds these bytes.
     fn same_memory(&self, what: &'static str, second: &[Vec<u8>; PARTS]) -> Result<(), Difference> {
         let mut pairs = self.parts.iter().zip(second);
         pairs.try_for_each(|(part, second)| same_bytes(what, part.bytes(), second))
-    }
-
-    /// The sum whose weights and constant the library has just given.
-    pub fn accepted_sum(&self, answer: &Answer) -> Sum {
-        let components = usize::from(self.parts[FABRIC].bytes()[COMPONENT_COUNT]);
-        let entries = self.parts[RESULT].bytes().as_chunks().0;
-        let weights = entries[..MOST_COLOURS * components].iter();
-        Sum {
-            weights: weights.map(|entry| i64::from_le_bytes(*entry)).collect(),
-            constant: answer.constant,
-        }
     }
 }

@@ -5,15 +5,21 @@ use reference::random_proposal::Equations;
 use reference::terms::{write_proposal, Term, MOST_TERMS, TERM};
 
 pub fn random_proposal(random: &mut Random, equations: &Equations) -> Vec<u8> {
-    let terms = match random.below(100) {
+    if random.percent(5) {
+        return odd_length(random, equations);
+    }
+    write_proposal(&random_terms(random, equations))
+}
+
+/// As many terms as there may be at the most.
+pub fn random_terms(random: &mut Random, equations: &Equations) -> Vec<Term> {
+    match random.below(95) {
         0..45 => equations.cancelling_terms(random),
         45..75 => near_miss(random, equations),
         75..85 => terms_of_any_equation(random, equations),
         85..90 => without_effect(random, equations),
-        90..95 => noise(random),
-        _ => return odd_length(random, equations),
-    };
-    write_proposal(&terms)
+        _ => noise(random),
+    }
 }
 
 /// One term off.

@@ -44,6 +44,14 @@ extern "C" {
         weights: *mut u8,
         weights_len: usize,
     ) -> u32;
+    pub fn fabric_check_many(
+        fabric: *const u8,
+        fabric_len: usize,
+        proposals: *const u8,
+        proposals_len: usize,
+        results: *mut u8,
+        results_len: usize,
+    ) -> u32;
     pub fn fabric_ceiling(
         fabric: *const u8,
         fabric_len: usize,
