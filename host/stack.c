@@ -17,6 +17,7 @@
 enum { PAINT = 0xA5, STACK = 1 << 20, LIMIT = 1 << 16, CHECK_LIMIT = 48 << 10, CHAIN_DEEP = 251, CIRCLE_DEEP = 385 };
 
 static uint8_t table[24 * 128], file[4 + 13 * 128], state[64 * 128], choices[128], moves[255], weights[64 * 128], out[4 + 13 * 128];
+static uint8_t block[2 + 20], results[8 * (3 + 8 * 128)]; /* a file of one block, the proposal, and its result */
 static const uint8_t *proposal;
 static size_t rows, file_len, proposal_len;
 static uint64_t channels;
@@ -85,6 +86,13 @@ static void write_file(void)
     file[3] = (uint8_t)-sum;
 }
 
+static void write_block(void)
+{
+    block[0] = 0, block[1] = (uint8_t)(proposal_len / 4);
+    if (proposal_len != 0)
+        memcpy(block + 2, proposal, proposal_len);
+}
+
 static void answers(uint32_t got, uint32_t wanted)
 {
     if (got != wanted) {
@@ -113,6 +121,8 @@ CALL(check_constant, fabric_check_constant(file, file_len, proposal, proposal_le
 CALL(ceiling, answers(fabric_ceiling(file, file_len, proposal, proposal_len, 2, 0), check_number))
 CALL(ceiling_place, fabric_ceiling_place(file, file_len, proposal, proposal_len, 2, 0))
 CALL(ceiling_value, fabric_ceiling_value(file, file_len, proposal, proposal_len, 2, 0))
+CALL(check_many, answers(fabric_check_many(file, file_len, block, 2 + proposal_len, results, sizeof results), number))
+CALL(check_many_place, fabric_check_many_place(file, file_len, block, 2 + proposal_len, results, sizeof results))
 
 static const struct {
     const char *name;
@@ -123,6 +133,7 @@ static const struct {
     {"step", step},       {"step_place", step_place},       {"run", run},                       {"run_place", run_place},
     {"check", check},     {"check_place", check_place},     {"check_constant", check_constant},
     {"ceiling", ceiling}, {"ceiling_place", ceiling_place}, {"ceiling_value", ceiling_value},
+    {"check_many", check_many}, {"check_many_place", check_many_place},
 };
 enum { CALLS = sizeof calls / sizeof calls[0] };
 
@@ -155,6 +166,7 @@ static void measure(void (*fabric)(void), size_t *bytes)
 {
     fabric();
     write_file();
+    write_block();
     memset(choices, 0, sizeof choices);
     for (size_t i = 0; i < CALLS; i++)
         bytes[i] = touched(calls[i].call);

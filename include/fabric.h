@@ -7,7 +7,8 @@
  * A state has 64 bytes a component: of a queue its count, then so many colours, front first; of a source 0 or 1 + the colour it holds;
  * of a sink 0, or 1 if it holds; all other bytes 0. The choices of a step are a byte a component: of a source 0 or 1 + a colour it
  * emits, of a sink and a merge 0 or 1, of others 0. A proposal is at most 4,096 terms of 4 bytes: component 7 bits, index 4,
- * multiplier 21 in two's complement, most significant bit first. docs/FORMAT.md has every field, with examples byte by byte.
+ * multiplier 21 in two's complement, most significant bit first. A file of many proposals is at most 64 blocks, each a count of terms
+ * of 2 bytes, high byte first, and its terms. docs/FORMAT.md has every field, with examples byte by byte.
  *
  * Memory. The host lends the memory and keeps it: no call stores a pointer, allocates or frees. A refused call leaves every lent
  * byte as it was; an accepted one leaves the bytes past its result as they were. A pointer whose length is 0 is never read and may
@@ -39,6 +40,7 @@
  *   23  the space for the result is short
  *   31  the component is no queue, or the colour is not below C
  *   32  the weight of that queue and colour is not above 0
+ *   33  more than 64 blocks, a count over 4,096, or blocks that do not fill the file
  */
 #ifndef FABRIC_H
 #define FABRIC_H
@@ -123,6 +125,19 @@ uint64_t fabric_ceiling_place(const uint8_t *fabric, size_t fabric_len, const ui
                               uint64_t colour);
 uint64_t fabric_ceiling_value(const uint8_t *fabric, size_t fabric_len, const uint8_t *proposal, size_t proposal_len, uint64_t queue,
                               uint64_t colour);
+
+/* Checks many proposals for one fabric, which is read and tested once. The proposals are a file of blocks, none included. Each block gets
+ * a result, in file order, of 3 + 8 N signed 64-bit numbers of 8 bytes, lowest first: number, place, K, and the 8 N weights. They are
+ * what check says of that block's terms, with space given: number 0 is an accepted sum, with all that is said of it above; 12, 13 or 14 a
+ * refused one, whose K and weights are 0. The place of 12 counts terms in the block. A refused block spoils no other, and the call
+ * returns 0 even if every block is refused. A result takes 24 + 64 N bytes, at most 8,216; 23 is for all results together.
+ * Refusals in this order: 1 2 3 4 5 6 7 8 33 23. All blocks are counted first: a file refused by 33 has written nothing. */
+uint32_t fabric_check_many(const uint8_t *fabric, size_t fabric_len, const uint8_t *proposals, size_t proposals_len, uint8_t *results,
+                           size_t results_len);
+
+/* Sister call: the place of the refusal. Only the length of the results counts. */
+uint64_t fabric_check_many_place(const uint8_t *fabric, size_t fabric_len, const uint8_t *proposals, size_t proposals_len,
+                                 const uint8_t *results, size_t results_len);
 
 #ifdef __cplusplus
 }
