@@ -24,10 +24,11 @@ blockStart file (suc b) = blockStart file b + 2 + 4 * termCount file (blockStart
 unfoldable pub block : List ℕ → ℕ → List ℕ
 block file b = take (4 * termCount file (blockStart file b)) (drop (blockStart file b + 2) file)
 
--- how many blocks begin in the file; 65 where more than 64 do
+-- block b would begin where the file has ended
 abbrev pub pastEnd : List ℕ → ℕ → Bool
 pastEnd file b = not (ltb (blockStart file b) (length file))
 
+-- how many blocks begin in the file; 65 where more than 64 do
 unfoldable pub blocks : List ℕ → ℕ
 blocks file = least (pastEnd file) (suc mostBlocks)
 
