@@ -4,23 +4,19 @@
 
 static const char *const KINDS[8] = {"source", "sink", "queue", "function", "fork", "join", "switch", "merge"};
 
-/* One byte more than the longest file, so that a file that is too long is seen to be. */
-enum { FILE_MOST = 4 + 13 * 128 + 1, ROW = 24, TABLE_MOST = ROW * 128 };
-
-/* C=1, M=6: 0 source out 0; 1 join 0, 1 to 2; 2 queue 2 to 3, capacity 2; 3 fork 3 to 4, 5; 4 sink 4;
- * 5 queue 5 to 1, capacity 2, filling 2. */
+/* One colour, six channels. A row begins with kind and ports. */
 static size_t credit_loop(uint8_t *file)
 {
-    static const uint8_t table[6 * ROW] = {
-        [0 * ROW] = 0, 0, [0 * ROW + 20] = 0x80,
-        [1 * ROW] = 5, 0, 1, 2,
-        [2 * ROW] = 2, 2, 3, [2 * ROW + 21] = 2, 0,
-        [3 * ROW] = 4, 3, 4, 5,
-        [4 * ROW] = 1, 4,
-        [5 * ROW] = 2, 5, 1, [5 * ROW + 21] = 2, 2,
+    static const uint8_t table[6][FABRIC_ROW_SIZE] = {
+        {FABRIC_SOURCE, 0, [FABRIC_MASK] = FABRIC_COLOUR_BIT(0)},
+        {FABRIC_JOIN, 0, 1, 2},
+        {FABRIC_QUEUE, 2, 3, [FABRIC_CAPACITY] = 2},
+        {FABRIC_FORK, 3, 4, 5},
+        {FABRIC_SINK, 4},
+        {FABRIC_QUEUE, 5, 1, [FABRIC_CAPACITY] = 2, [FABRIC_FILLING] = 2},
     };
-    size_t length = 4 + 13 * 6;
-    return fabric_pack(1, 6, table, sizeof table, file, length) == 0 ? length : 0;
+    size_t length = FABRIC_FILE_SIZE(6);
+    return fabric_pack(1, 6, table[0], sizeof table, file, length) == FABRIC_ACCEPTED ? length : 0;
 }
 
 static void print_map(const char *name, const uint8_t *map, unsigned colours)
@@ -32,26 +28,27 @@ static void print_map(const char *name, const uint8_t *map, unsigned colours)
 
 static void print_row(unsigned k, const uint8_t *row, unsigned colours)
 {
-    unsigned kind = row[0], ports = kind < 2 ? 1 : kind < 4 ? 2 : 3;
+    unsigned kind = row[FABRIC_KIND], ports = kind < FABRIC_QUEUE ? 1 : kind < FABRIC_FORK ? 2 : 3;
     printf("%u %s", k, KINDS[kind]);
     for (unsigned p = 0; p < ports; p++)
-        printf(" %u", row[1 + p]);
-    if (kind >= 3 && kind <= 5)
-        print_map("map", row + 4, colours);
-    if (kind == 4)
-        print_map("second", row + 12, colours);
-    if (kind == 0 || kind == 6)
-        printf(" mask %02x", row[20]);
-    if (kind == 2)
-        printf(" capacity %u filling %u", row[21], row[22]);
-    if (kind == 2 && row[22] > 0)
-        printf(" of %u", row[23]);
+        printf(" %u", row[FABRIC_PORT_A + p]);
+    if (kind == FABRIC_FUNCTION || kind == FABRIC_FORK || kind == FABRIC_JOIN)
+        print_map("map", row + FABRIC_FIRST_MAP, colours);
+    if (kind == FABRIC_FORK)
+        print_map("second", row + FABRIC_SECOND_MAP, colours);
+    if (kind == FABRIC_SOURCE || kind == FABRIC_SWITCH)
+        printf(" mask %02x", row[FABRIC_MASK]);
+    if (kind == FABRIC_QUEUE)
+        printf(" capacity %u filling %u", row[FABRIC_CAPACITY], row[FABRIC_FILLING]);
+    if (kind == FABRIC_QUEUE && row[FABRIC_FILLING] > 0)
+        printf(" of %u", row[FABRIC_FILL_COLOUR]);
     printf("\n");
 }
 
 int main(int argc, char **argv)
 {
-    static uint8_t file[FILE_MOST], table[TABLE_MOST];
+    /* One byte more than the longest file, so that a file that is too long is seen to be. */
+    static uint8_t file[FABRIC_MOST_FILE + 1], table[FABRIC_MOST_TABLE];
     size_t length;
     if (argc > 1) {
         FILE *f = fopen(argv[1], "rb");
@@ -62,7 +59,7 @@ int main(int argc, char **argv)
         length = credit_loop(file);
     }
     uint32_t refused = fabric_unpack(file, length, table, sizeof table);
-    if (refused != 0) {
+    if (refused != FABRIC_ACCEPTED) {
         printf("NO %u %llu\n", refused, (unsigned long long)fabric_unpack_place(file, length, table, sizeof table));
         return 1;
     }
@@ -70,6 +67,6 @@ int main(int argc, char **argv)
     printf("header %02x %02x %02x %02x, length %zu, colours %u, channels %llu\n", file[0], file[1], file[2], file[3], length, colours,
            (unsigned long long)fabric_unpack_channels(file, length, table, sizeof table));
     for (unsigned k = 0; k < file[1]; k++)
-        print_row(k, table + ROW * k, colours);
+        print_row(k, table + FABRIC_ROW_SIZE * k, colours);
     return 0;
 }
