@@ -17,7 +17,9 @@ PANEL := $(shell find .cargo Cargo.toml Cargo.lock panel reference -type f 2>/de
 
 library: $(STAGED)
 
+# check proves crates side by side, staticlib one after the other.
 target/staticlib/libkit.a: $(CRATES)
+	tools/prove check kit
 	tools/prove staticlib kit
 
 $(STAGE)/lib/libfabric.a: target/staticlib/libkit.a

@@ -1,16 +1,13 @@
-//! Tells the linker where the kit's static library lies.
+//! Tells the linker where the library is installed: FABRIC_PREFIX, by default where `make` stages it.
 
 use std::env;
 use std::path::Path;
 
 fn main() {
-    println!("cargo:rerun-if-env-changed=KIT_LIB_DIR");
+    println!("cargo:rerun-if-env-changed=FABRIC_PREFIX");
     let package = env::var("CARGO_MANIFEST_DIR").expect("cargo names the package's folder");
-    let folder = env::var("KIT_LIB_DIR").unwrap_or_else(|_| "../target/staticlib".to_string());
-    let folder = Path::new(&package).join(folder);
-    println!("cargo:rustc-link-search=native={}", folder.display());
-    println!(
-        "cargo:rerun-if-changed={}",
-        folder.join("libkit.a").display()
-    );
+    let prefix = env::var("FABRIC_PREFIX").unwrap_or_else(|_| "../target/prefix".to_string());
+    let archive = Path::new(&package).join(prefix).join("lib/libfabric.a");
+    println!("cargo:rerun-if-changed={}", archive.display());
+    println!("cargo:rustc-link-arg-bins={}", archive.display());
 }

@@ -6,7 +6,7 @@ use crate::component::{Component, MOST_COLOURS};
 use crate::refusal::Refusal;
 
 pub const MOST_COMPONENTS: usize = 128;
-const MOST_CHANNELS: usize = 255;
+pub const MOST_CHANNELS: usize = 255;
 
 pub struct Fabric {
     pub colours: usize,

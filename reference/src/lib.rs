@@ -18,6 +18,7 @@ pub mod dependences;
 pub mod entries;
 pub mod equations;
 pub mod fabric;
+pub mod field_rules;
 pub mod file_calls;
 pub mod listing;
 pub mod open_table;
@@ -29,8 +30,20 @@ pub mod state;
 pub mod state_calls;
 pub mod terms;
 
-// Fabrics, states and proposals to try them on.
+// The calls of the library.
+pub mod library;
+
+// Netlists and proposals as text, and where a refused netlist waits for itself.
+pub mod netlist;
+pub mod proposal_text;
+pub mod shortest_circle;
+
+// The sums of a fabric.
 pub mod null_space;
+pub mod sparse;
+pub mod sum_basis;
+
+// Fabrics, states and proposals to try them on.
 pub mod panels;
 pub mod random;
 pub mod random_fabric;

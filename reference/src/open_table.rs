@@ -28,7 +28,7 @@ pub fn write_table(fabric: &Fabric, table: &mut [u8]) {
 }
 
 /// `None` if there is no such kind.
-fn read_row(row: &[u8; ROW]) -> Option<Component> {
+pub fn read_row(row: &[u8; ROW]) -> Option<Component> {
     let [kind, a, b, c, maps @ .., mask, capacity, filling, fill_colour] = *row;
     let mut first_map = [0; MOST_COLOURS];
     let mut second_map = [0; MOST_COLOURS];

@@ -7,7 +7,7 @@ use crate::refusal::Refusal;
 pub const HEADER: usize = 4;
 pub const RECORD: usize = 13;
 const RECORD_BITS: u32 = 8 * RECORD as u32;
-const EDITION: u8 = 1;
+pub const EDITION: u8 = 1;
 
 /// Where it stands in the header.
 pub const CHECK_BYTE: usize = 3;
@@ -20,7 +20,7 @@ pub fn read_file(file: &[u8]) -> Result<Fabric, Refusal> {
     if first >> 4 != EDITION || first & 1 != 0 {
         return Err(Refusal::WrongEdition);
     }
-    let colours = (first >> 1 & 7) + 1;
+    let colours = colours_in(*first);
     test_ranges(
         usize::from(*components),
         u64::from(*channels),
@@ -38,6 +38,11 @@ pub fn read_file(file: &[u8]) -> Result<Fabric, Refusal> {
         usize::from(*channels),
         records.iter().map(read_record),
     )
+}
+
+/// C, from the header's first byte.
+pub fn colours_in(first: u8) -> u8 {
+    (first >> 1 & 7) + 1
 }
 
 pub fn file_length(components: usize) -> usize {
@@ -67,12 +72,18 @@ pub fn repair_check_byte(file: &mut [u8]) {
     file[CHECK_BYTE] = byte_sum(file).wrapping_neg();
 }
 
-fn byte_sum(bytes: &[u8]) -> u8 {
+pub fn byte_sum(bytes: &[u8]) -> u8 {
     bytes.iter().fold(0, |sum, &byte| sum.wrapping_add(byte))
 }
 
 /// `None` if the six bits at the end are not 0.
 fn read_record(record: &[u8; RECORD]) -> Option<Component> {
+    let (component, end) = read_fields(record);
+    (end == 0).then_some(component)
+}
+
+/// The component as its record has it, and the six bits at the end.
+pub fn read_fields(record: &[u8; RECORD]) -> (Component, u8) {
     let mut bytes = [0; 16];
     bytes[16 - RECORD..].copy_from_slice(record);
     let bits = u128::from_be_bytes(bytes);
@@ -91,7 +102,7 @@ fn read_record(record: &[u8; RECORD]) -> Option<Component> {
         filling: field(6),
         fill_colour: field(3),
     };
-    (field(6) == 0).then_some(component)
+    (component, field(6))
 }
 
 fn write_record(component: &Component) -> [u8; RECORD] {

@@ -1,26 +1,33 @@
-//! The panels of the source documents, read from their texts.
+//! The panels of the source documents: netlists, and what is expected of each.
 
-use crate::component::{Component, Kind};
 use crate::fabric::Fabric;
+use crate::netlist;
 use crate::terms::Term;
 
-const TEXTS: [(&str, &str); 6] = [
-    ("credit-loop", include_str!("../../panels/credit-loop.txt")),
-    ("credits", include_str!("../../panels/credits.txt")),
-    ("distributor", include_str!("../../panels/distributor.txt")),
-    ("fork-join", include_str!("../../panels/fork-join.txt")),
-    ("two-stages", include_str!("../../panels/two-stages.txt")),
-    ("uneven", include_str!("../../panels/uneven.txt")),
-];
+/// The name of a panel, its netlist and what is expected.
+macro_rules! texts {
+    ($($name:literal),*) => {
+        [$((
+            $name,
+            include_str!(concat!("../../panels/", $name, ".txt")),
+            include_str!(concat!("../../panels/expected/", $name, ".txt")),
+        )),*]
+    };
+}
 
-const KIND_NAMES: [&str; 8] = [
-    "source", "sink", "queue", "function", "fork", "join", "switch", "merge",
-];
+const TEXTS: [(&str, &str, &str); 6] = texts!(
+    "credit-loop",
+    "credits",
+    "distributor",
+    "fork-join",
+    "two-stages",
+    "uneven"
+);
 
 pub struct Panel {
     pub name: &'static str,
     pub fabric: Fabric,
-    /// The packed file as the text gives it.
+    /// The packed file as expected.
     pub file: Vec<u8>,
     /// One of each sum that does not follow from the others.
     pub sums: Vec<PanelSum>,
@@ -33,17 +40,16 @@ pub struct PanelSum {
 }
 
 pub fn panels() -> Vec<Panel> {
-    TEXTS.iter().map(|(name, text)| panel(name, text)).collect()
+    TEXTS.iter().map(panel).collect()
 }
 
-fn panel(name: &'static str, text: &str) -> Panel {
+fn panel((name, netlist, expected): &(&'static str, &str, &str)) -> Panel {
     let with = |start: &'static str| {
-        text.lines()
+        expected
+            .lines()
             .filter_map(move |line| line.strip_prefix(start))
     };
     let one = |start| with(start).next().expect("a panel has such a line");
-    let counts: Vec<&str> = one("edition 1 ").split_whitespace().collect();
-    let components = text.lines().filter_map(component).collect();
     let sums: Vec<PanelSum> = with(" terms ")
         .zip(with("  hex "))
         .zip(with("  listing: "))
@@ -56,59 +62,9 @@ fn panel(name: &'static str, text: &str) -> Panel {
     assert_eq!(number(one("independent sums: ")), sums.len());
     Panel {
         name,
-        fabric: Fabric {
-            colours: number(counts[1]),
-            channels: number(counts[5]),
-            components,
-        },
+        fabric: netlist::read(netlist).expect("a netlist").fabric,
         file: bytes(one("hex ")),
         sums,
-    }
-}
-
-/// `None` for a line that is no component's: number, kind, name, ports and the other fields.
-fn component(line: &str) -> Option<Component> {
-    let words: Vec<&str> = line.split_whitespace().collect();
-    let [number, kind, _, fields @ ..] = &words[..] else {
-        return None;
-    };
-    number.parse::<usize>().ok()?;
-    let kind = KIND_NAMES.iter().position(|name| name == kind)?;
-    let mut component = Component::new(Kind::ALL[kind], [0; 3]);
-    let (ports, fields): (Vec<&str>, Vec<&str>) =
-        fields.iter().partition(|field| field.contains('='));
-    for (port, text) in component.ports.iter_mut().zip(ports) {
-        *port = small(&text[2..]);
-    }
-    match fields[..] {
-        [] => {}
-        ["mask", colours] => component.mask = mask(colours),
-        ["map", entries] => fill_map(&mut component.first_map, entries),
-        ["maps", first, second] => {
-            fill_map(&mut component.first_map, first);
-            fill_map(&mut component.second_map, second);
-        }
-        ["capacity", capacity, "filling", filling, "colour", colour] => {
-            component.capacity = small(capacity);
-            component.filling = small(filling);
-            component.fill_colour = small(colour);
-        }
-        _ => panic!("no component of a panel: {line}"),
-    }
-    Some(component)
-}
-
-/// From `{0,2}`; colour 0 is the highest bit.
-fn mask(colours: &str) -> u8 {
-    let listed = colours.trim_matches(['{', '}']).split(',');
-    let bits = listed.filter(|text| !text.is_empty()).map(number);
-    bits.fold(0, |mask, colour| mask | 0x80 >> colour)
-}
-
-/// From a digit a colour.
-fn fill_map(map: &mut [u8; 8], digits: &str) {
-    for (entry, digit) in map.iter_mut().zip(digits.bytes()) {
-        *entry = digit - b'0';
     }
 }
 
@@ -123,7 +79,8 @@ fn term(text: &str) -> Term {
     }
 }
 
-fn bytes(hex: &str) -> Vec<u8> {
+/// Of hex digits, with spaces between them or not.
+pub fn bytes(hex: &str) -> Vec<u8> {
     let digits: Vec<u8> = hex.bytes().filter(|digit| *digit != b' ').collect();
     let value = |digit: u8| (digit as char).to_digit(16).expect("a hex digit") as u8;
     let pairs = digits.as_chunks::<2>().0.iter();
@@ -134,8 +91,4 @@ fn bytes(hex: &str) -> Vec<u8> {
 
 fn number(text: &str) -> usize {
     text.parse().expect("a number")
-}
-
-fn small(text: &str) -> u8 {
-    text.parse().expect("a number below 256")
 }

@@ -4,9 +4,9 @@ use std::collections::BTreeMap;
 
 use crate::equations::{equation, INDEXES};
 use crate::fabric::Fabric;
-use crate::null_space::null_space;
+use crate::null_space::{null_space, terms};
 use crate::random::Random;
-use crate::terms::{Term, MOST_TERMS, MULTIPLIER_BOUND};
+use crate::terms::{fits, Term, MOST_TERMS, MULTIPLIER_BOUND};
 
 /// A component and an index of it.
 type Name = (usize, usize);
@@ -25,11 +25,11 @@ impl Equations {
         };
         let numbers = 0..INDEXES * fabric.components.len();
         let names = numbers.map(|number| (number / INDEXES, number % INDEXES));
-        let mut cancelling = null_space(fabric);
-        cancelling.retain(|terms| terms.iter().all(|term| fits(term.multiplier)));
+        let found = null_space(fabric);
+        let combinations = found.without_queues.iter().chain(&found.with_queues);
         Equations {
             names: names.filter(exists).collect(),
-            cancelling,
+            cancelling: combinations.filter_map(terms).collect(),
         }
     }
 
@@ -110,10 +110,6 @@ impl Equations {
             }
         }
     }
-}
-
-fn fits(multiplier: i64) -> bool {
-    (-MULTIPLIER_BOUND..MULTIPLIER_BOUND).contains(&multiplier)
 }
 
 fn term((component, index): Name, multiplier: i64) -> Term {

@@ -155,3 +155,40 @@ pub fn switch_row(pairs: usize) -> Fabric {
         components,
     }
 }
+
+/// Packets of colour 0 from a queue through stages of a fork whose outputs, one of them through a
+/// queue, are merged again; the last queue has its output on its own input. Each stage doubles what
+/// its packets weigh.
+pub fn doubling_row(stages: usize) -> Fabric {
+    let keeps_colour = |a, b, c| {
+        let mut fork = Component::new(Kind::Fork, [a, b, c]);
+        fork.first_map[1] = 1;
+        fork.second_map[1] = 1;
+        fork
+    };
+    let one = |x: u8| {
+        [
+            keeps_colour(x, x + 1, x + 2),
+            queue(x + 1, x + 3, 2, 0),
+            Component::new(Kind::Merge, [x + 2, x + 3, x + 4]),
+        ]
+    };
+    let last = 4 * stages as u8 + 1;
+    let emits_colour_1 = Component {
+        mask: 0x40,
+        ..source(0)
+    };
+    let components = [emits_colour_1, queue(0, 1, 2, 1)]
+        .into_iter()
+        .chain((1..last).step_by(4).flat_map(one))
+        .chain([
+            Component::new(Kind::Merge, [last, last + 2, last + 1]),
+            queue(last + 1, last + 2, 2, 0),
+        ])
+        .collect();
+    Fabric {
+        colours: 2,
+        channels: 4 * stages + 4,
+        components,
+    }
+}

@@ -8,6 +8,10 @@ pub const MOST_TERMS: usize = 4096;
 /// A multiplier is from minus this to one below it.
 pub const MULTIPLIER_BOUND: i64 = 1 << 20;
 
+pub fn fits(multiplier: i64) -> bool {
+    (-MULTIPLIER_BOUND..MULTIPLIER_BOUND).contains(&multiplier)
+}
+
 #[derive(Clone, Copy, PartialEq, Eq, Debug)]
 pub struct Term {
     pub component: usize,

@@ -2,8 +2,8 @@
 
 use super::packed;
 use crate::listing;
-use crate::null_space::null_space;
 use crate::panels::panels;
+use crate::sum_basis::sum_basis;
 use crate::terms::write_proposal;
 
 #[test]
@@ -26,6 +26,19 @@ fn list_the_sums_in_the_text() {
 #[test]
 fn have_as_many_independent_sums_as_the_text_says() {
     for panel in panels() {
-        assert_eq!(null_space(&panel.fabric).len(), panel.sums.len());
+        let found = sum_basis(&panel.fabric);
+        assert_eq!(found.sums.len(), panel.sums.len(), "{}", panel.name);
+        assert_eq!(found.left_out, 0, "{}", panel.name);
+    }
+}
+
+/// No panel has more than one, so it is the same up to its sign.
+#[test]
+fn have_the_sum_in_the_text() {
+    for panel in panels() {
+        for (found, sum) in sum_basis(&panel.fabric).sums.iter().zip(&panel.sums) {
+            let listing = listing(&panel.file, &write_proposal(found));
+            assert_eq!(listing, sum.listing, "{}", panel.name);
+        }
     }
 }

@@ -11,9 +11,9 @@ use reference::random_proposal::Equations;
 use reference::terms::{write_proposal, Term};
 use reference::Fabric;
 
-use crate::library::fabric_check_many;
 use crate::sum_calls::library_check;
 use crate::timing::{time_alternately, Times};
+use reference::library::fabric_check_many;
 
 /// How many terms each block has.
 const TERMS: usize = 64;

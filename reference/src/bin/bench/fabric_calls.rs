@@ -7,8 +7,8 @@ use reference::random_state::random_choices;
 use reference::state::COMPONENT_STATE;
 use reference::{run, start, step, Fabric};
 
-use crate::library::{fabric_run, fabric_start, fabric_step};
 use crate::timing::{time_alternately, Times};
+use reference::library::{fabric_run, fabric_start, fabric_step};
 
 const STEPS: usize = 100;
 

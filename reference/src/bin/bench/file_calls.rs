@@ -4,8 +4,8 @@ use std::hint::black_box;
 
 use reference::{pack, unpack, Fabric};
 
-use crate::library::{fabric_pack, fabric_unpack};
 use crate::timing::{time_alternately, Times};
+use reference::library::{fabric_pack, fabric_unpack};
 
 pub fn time_unpack(fabric: &Fabric) -> Times {
     let file = fabric.to_file();

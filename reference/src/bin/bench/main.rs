@@ -4,8 +4,6 @@
 mod block_calls;
 mod fabric_calls;
 mod file_calls;
-#[path = "../shared/library.rs"]
-mod library;
 mod sum_calls;
 mod timing;
 

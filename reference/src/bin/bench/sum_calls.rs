@@ -8,8 +8,8 @@ use reference::random_proposal::Equations;
 use reference::terms::write_proposal;
 use reference::{ceiling, check, Fabric};
 
-use crate::library::{fabric_ceiling, fabric_check};
 use crate::timing::{time_alternately, Times};
+use reference::library::{fabric_ceiling, fabric_check};
 
 pub fn time_all(fabric: &Fabric, mut report: impl FnMut(&str, Times)) {
     let file = fabric.to_file();

@@ -3,16 +3,16 @@
 use crate::answer::Answer;
 use crate::case::Call;
 use crate::lent_memory::LentMemory;
-use crate::library::{
+use crate::trial::PARTS;
+use reference::library::{
     fabric_ceiling, fabric_check, fabric_check_many, fabric_pack, fabric_run, fabric_start,
     fabric_step, fabric_unpack,
 };
-use crate::sisters::{
+use reference::library::{
     fabric_ceiling_place, fabric_ceiling_value, fabric_check_constant, fabric_check_many_place,
     fabric_check_place, fabric_pack_place, fabric_run_place, fabric_start_place, fabric_step_place,
     fabric_unpack_channels, fabric_unpack_colours, fabric_unpack_place,
 };
-use crate::trial::PARTS;
 
 /// What the sister calls hand back; the number is left at 0.
 pub fn sisters(call: Call, parts: &[LentMemory; PARTS]) -> Answer {

@@ -28,8 +28,6 @@ mod followed_ceilings;
 mod followed_sums;
 mod judged_block;
 mod lent_memory;
-#[path = "../shared/library.rs"]
-mod library;
 mod library_side;
 mod list;
 mod options;
@@ -43,7 +41,6 @@ mod random_fabrics;
 mod random_lists;
 mod round_trip;
 mod second_side;
-mod sisters;
 mod trial;
 mod wild_number;
 

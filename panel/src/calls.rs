@@ -1,0 +1,138 @@
+//! The calls of the library, with memory of the right size lent to each.
+
+use reference::check::weights_length;
+use reference::fabric::MOST_COMPONENTS;
+use reference::library::{
+    fabric_ceiling, fabric_ceiling_place, fabric_ceiling_value, fabric_check,
+    fabric_check_constant, fabric_check_place, fabric_pack, fabric_pack_place, fabric_start,
+    fabric_start_place, fabric_step, fabric_step_place, fabric_unpack, fabric_unpack_channels,
+    fabric_unpack_colours, fabric_unpack_place,
+};
+use reference::open_table::{read_row, ROW};
+use reference::packed::file_length;
+use reference::state::COMPONENT_STATE;
+use reference::Fabric;
+
+/// The library's refusal, by number and place.
+#[derive(Clone, Copy, PartialEq, Eq, Debug)]
+pub struct Refused {
+    pub number: u32,
+    pub place: u64,
+}
+
+/// What an accepted check wrote and handed back.
+#[derive(PartialEq, Eq, Debug)]
+pub struct Checked {
+    /// Entry 8 q + d is the weight of n(q,d).
+    pub weights: Vec<i64>,
+    pub constant: i64,
+}
+
+fn accepted(number: u32, place: impl FnOnce() -> u64) -> Result<(), Refused> {
+    match number {
+        0 => Ok(()),
+        _ => Err(Refused {
+            number,
+            place: place(),
+        }),
+    }
+}
+
+pub fn unpack(file: &[u8]) -> Result<Fabric, Refused> {
+    let mut table = vec![0; ROW * MOST_COMPONENTS];
+    let (from, from_len) = (file.as_ptr(), file.len());
+    let number = unsafe { fabric_unpack(from, from_len, table.as_mut_ptr(), table.len()) };
+    let (to, to_len) = (table.as_ptr(), table.len());
+    accepted(number, || unsafe {
+        fabric_unpack_place(from, from_len, to, to_len)
+    })?;
+    let colours = unsafe { fabric_unpack_colours(from, from_len, to, to_len) } as usize;
+    let channels = unsafe { fabric_unpack_channels(from, from_len, to, to_len) } as usize;
+    let components = usize::from(file[1]);
+    let (rows, _) = table.as_chunks();
+    let rows = rows[..components].iter().map(read_row);
+    Ok(Fabric {
+        colours,
+        channels,
+        components: rows.collect::<Option<_>>().expect("an accepted kind"),
+    })
+}
+
+pub fn pack(fabric: &Fabric) -> Result<Vec<u8>, Refused> {
+    let table = fabric.to_table();
+    let (colours, channels) = (fabric.colours as u64, fabric.channels as u64);
+    let (from, from_len) = (table.as_ptr(), table.len());
+    let mut file = vec![0; file_length(fabric.components.len())];
+    let (to, to_len) = (file.as_mut_ptr(), file.len());
+    let number = unsafe { fabric_pack(colours, channels, from, from_len, to, to_len) };
+    accepted(number, || unsafe {
+        fabric_pack_place(colours, channels, from, from_len, to, to_len)
+    })?;
+    Ok(file)
+}
+
+/// The state at start. The file was accepted by `unpack`.
+pub fn start(file: &[u8]) -> Result<Vec<u8>, Refused> {
+    let mut state = vec![0; COMPONENT_STATE * usize::from(file[1])];
+    let (to, to_len) = (state.as_mut_ptr(), state.len());
+    let number = unsafe { fabric_start(file.as_ptr(), file.len(), to, to_len) };
+    accepted(number, || unsafe {
+        fabric_start_place(file.as_ptr(), file.len(), to, to_len)
+    })?;
+    Ok(state)
+}
+
+/// Takes a step: the state becomes the one after it. Hands back the moves, a byte a channel: 0, or
+/// 1 + the colour that moved. The file was accepted by `unpack`.
+pub fn step(file: &[u8], state: &mut [u8], choices: &[u8]) -> Result<Vec<u8>, Refused> {
+    let mut moves = vec![0; usize::from(file[2])];
+    let (fabric, fabric_len) = (file.as_ptr(), file.len());
+    let (cells, cells_len) = (state.as_mut_ptr(), state.len());
+    let (given, given_len) = (choices.as_ptr(), choices.len());
+    let (to, to_len) = (moves.as_mut_ptr(), moves.len());
+    let number = unsafe {
+        fabric_step(
+            fabric, fabric_len, cells, cells_len, given, given_len, to, to_len,
+        )
+    };
+    accepted(number, || unsafe {
+        fabric_step_place(
+            fabric, fabric_len, cells, cells_len, given, given_len, to, to_len,
+        )
+    })?;
+    Ok(moves)
+}
+
+/// The file was accepted by `unpack`.
+pub fn check(file: &[u8], proposal: &[u8]) -> Result<Checked, Refused> {
+    let mut bytes = vec![0; weights_length(usize::from(file[1]))];
+    let (fabric, fabric_len) = (file.as_ptr(), file.len());
+    let (given, given_len) = (proposal.as_ptr(), proposal.len());
+    let (to, to_len) = (bytes.as_mut_ptr(), bytes.len());
+    let number = unsafe { fabric_check(fabric, fabric_len, given, given_len, to, to_len) };
+    accepted(number, || unsafe {
+        fabric_check_place(fabric, fabric_len, given, given_len, to, to_len)
+    })?;
+    let constant =
+        unsafe { fabric_check_constant(fabric, fabric_len, given, given_len, to, to_len) };
+    let (entries, _) = bytes.as_chunks();
+    Ok(Checked {
+        weights: entries
+            .iter()
+            .map(|entry| i64::from_le_bytes(*entry))
+            .collect(),
+        constant,
+    })
+}
+
+/// The most that a queue can hold of a colour.
+pub fn ceiling(file: &[u8], proposal: &[u8], queue: usize, colour: usize) -> Result<u64, Refused> {
+    let (fabric, fabric_len) = (file.as_ptr(), file.len());
+    let (given, given_len) = (proposal.as_ptr(), proposal.len());
+    let (queue, colour) = (queue as u64, colour as u64);
+    let number = unsafe { fabric_ceiling(fabric, fabric_len, given, given_len, queue, colour) };
+    accepted(number, || unsafe {
+        fabric_ceiling_place(fabric, fabric_len, given, given_len, queue, colour)
+    })?;
+    Ok(unsafe { fabric_ceiling_value(fabric, fabric_len, given, given_len, queue, colour) })
+}

@@ -1,0 +1,10 @@
+//! Numbers in words of a line.
+
+use std::str::FromStr;
+
+/// Digits alone: a sign is none.
+pub fn number<T: FromStr>(word: &str) -> Result<T, String> {
+    let digits = word.bytes().all(|byte| byte.is_ascii_digit());
+    let number = word.parse().ok().filter(|_| digits);
+    number.ok_or_else(|| format!("'{word}' is no number"))
+}

@@ -1,0 +1,223 @@
+//! The sums of a fabric: all of them, none twice, small ones first.
+
+use super::{check_answer, term};
+use crate::check::judged;
+use crate::component::{Kind, MOST_COLOURS};
+use crate::equations::{equation, INDEXES};
+use crate::fabric::Fabric;
+use crate::random::Random;
+use crate::random_fabric::{random_fabric, Plan};
+use crate::samples::{credit_loop, credit_terms, doubling_row, function_row, looped_queues};
+use crate::sum_basis::sum_basis;
+use crate::terms::{write_proposal, Term};
+
+/// A large prime: integers that are independent modulo it are independent.
+const PRIME: i128 = (1 << 61) - 1;
+
+#[test]
+fn the_sum_of_the_credit_loop() {
+    let mut expected = credit_terms();
+    expected.sort_by_key(|term| (term.component, term.index));
+    let found = sum_basis(&credit_loop());
+    assert_eq!((found.sums, found.left_out), (vec![expected], 0));
+}
+
+#[test]
+fn no_sum_of_a_row_without_queues() {
+    let found = sum_basis(&function_row(128));
+    assert_eq!((found.sums, found.left_out), (vec![], 0));
+}
+
+#[test]
+fn one_sum_for_each_queue_on_itself() {
+    let found = sum_basis(&looped_queues(128));
+    let expected: Vec<_> = (0..128).map(|queue| vec![term(queue, 0, 1)]).collect();
+    assert_eq!((found.sums, found.left_out), (expected, 0));
+}
+
+#[test]
+fn all_of_random_fabrics_are_accepted_independent_and_all_there_are() {
+    let mut all = 0;
+    for number in 0..120 {
+        let fabric = random_one(number, &[2, 6, 12, 20]);
+        let found = sum_basis(&fabric);
+        for terms in &found.sums {
+            assert_eq!(check_answer(&fabric, terms), (0, 0), "fabric {number}");
+        }
+        let weights: Vec<Vec<i64>> = weights_of(&fabric, &found.sums);
+        let rows = weights.iter().map(|row| wide(row)).collect();
+        assert_eq!(rank(rows), found.sums.len(), "fabric {number}");
+        let there_are = dimension(&fabric);
+        assert_eq!(found.sums.len() + found.left_out, there_are, "{number}");
+        all += there_are;
+    }
+    assert!(all > 300, "{all}");
+}
+
+#[test]
+fn the_largest_fabrics_are_accepted_too() {
+    let mut all = 0;
+    for number in 0..40 {
+        let fabric = random_one(number, &[128]);
+        let found = sum_basis(&fabric);
+        for terms in &found.sums {
+            assert_eq!(check_answer(&fabric, terms), (0, 0), "fabric {number}");
+        }
+        all += found.sums.len();
+    }
+    assert!(all > 200, "{all}");
+}
+
+#[test]
+fn small_ones_come_first() {
+    let mut steps = 0;
+    for number in 0..100 {
+        let fabric = random_one(number, &[20, 60]);
+        let weights = weights_of(&fabric, &sum_basis(&fabric).sums);
+        let sizes: Vec<_> = weights.iter().map(|row| size(row)).collect();
+        assert!(sizes.is_sorted(), "fabric {number}: {sizes:?}");
+        steps += sizes.windows(2).filter(|pair| pair[0] < pair[1]).count();
+    }
+    assert!(steps > 100, "{steps}");
+}
+
+#[test]
+fn none_is_larger_than_its_sum_or_difference_with_another() {
+    let mut pairs = 0;
+    for number in 0..100 {
+        let fabric = random_one(number, &[6, 20]);
+        let weights = weights_of(&fabric, &sum_basis(&fabric).sums);
+        for (place, row) in weights.iter().enumerate() {
+            for other in weights[..place].iter().chain(&weights[place + 1..]) {
+                for sign in [1, -1] {
+                    let both = row.iter().zip(other);
+                    let sum: Vec<i64> = both.map(|(one, next)| one + sign * next).collect();
+                    assert!(size(&sum) >= size(row), "fabric {number}");
+                    pairs += 1;
+                }
+            }
+        }
+    }
+    assert!(pairs > 500, "{pairs}");
+}
+
+#[test]
+fn most_weights_are_positive() {
+    for number in 0..100 {
+        let fabric = random_one(number, &[6, 20]);
+        for row in weights_of(&fabric, &sum_basis(&fabric).sums) {
+            let signs = row.iter().map(|weight| weight.signum());
+            let balance: i64 = signs.clone().sum();
+            let first = signs.clone().find(|sign| *sign != 0);
+            assert!(balance > 0 || balance == 0 && first == Some(1), "{row:?}");
+        }
+    }
+}
+
+/// n(last) + 2^(k-1) n(stage 0) + .. + 1 n(stage k-1) + 2^k n(first), up to the sign.
+#[test]
+fn weights_that_double_are_found_while_they_fit() {
+    for stages in [1, 2, 3, 19, 20] {
+        let fabric = doubling_row(stages);
+        let found = sum_basis(&fabric);
+        assert_eq!((found.sums.len(), found.left_out), (1, 0), "{stages}");
+        assert_eq!(check_answer(&fabric, &found.sums[0]), (0, 0), "{stages}");
+        let mut expected = vec![0; MOST_COLOURS * fabric.components.len()];
+        // 2^20 fits a term only if it is below 0.
+        let sign = if stages == 20 { -1 } else { 1 };
+        expected[MOST_COLOURS] = sign << stages;
+        for stage in 0..stages {
+            expected[MOST_COLOURS * (3 * stage + 3)] = sign << (stages - 1 - stage);
+        }
+        expected[MOST_COLOURS * (fabric.components.len() - 1)] = sign;
+        assert_eq!(weights_of(&fabric, &found.sums), [expected], "{stages}");
+    }
+}
+
+#[test]
+fn a_sum_that_does_not_fit_is_left_out_and_counted() {
+    for stages in [21, 30, 41] {
+        let fabric = doubling_row(stages);
+        assert_eq!(check_answer(&fabric, &[]), (14, 0), "the fabric is good");
+        let found = sum_basis(&fabric);
+        assert_eq!((found.sums, found.left_out), (vec![], 1), "{stages}");
+    }
+}
+
+fn random_one(number: u64, sizes: &[usize]) -> Fabric {
+    let random = &mut Random::new(31, number);
+    let plan = Plan {
+        size: random.pick(sizes),
+        colours: random.between(1, MOST_COLOURS),
+        circles: false,
+    };
+    random_fabric(random, &plan)
+}
+
+/// As the check has them.
+fn weights_of(fabric: &Fabric, sums: &[Vec<Term>]) -> Vec<Vec<i64>> {
+    let weights = |terms: &Vec<Term>| judged(fabric, &write_proposal(terms)).map(|sum| sum.weights);
+    sums.iter()
+        .map(|terms| weights(terms).expect("accepted"))
+        .collect()
+}
+
+/// How many queues, how many weights, and how large these are in all.
+fn size(weights: &[i64]) -> (usize, usize, i64) {
+    let queues = weights.chunks(MOST_COLOURS);
+    let weighted = queues.filter(|weights| weights.iter().any(|weight| *weight != 0));
+    let count = weights.iter().filter(|weight| **weight != 0).count();
+    let total = weights.iter().map(|weight| weight.abs()).sum();
+    (weighted.count(), count, total)
+}
+
+/// How many independent sums there are: as many as equations of queues, less what these add to the
+/// rank of all others.
+fn dimension(fabric: &Fabric) -> usize {
+    let numbers = 0..INDEXES * fabric.components.len();
+    let (of_queues, others): (Vec<usize>, Vec<usize>) =
+        numbers.partition(|number| fabric.components[number / INDEXES].kind == Kind::Queue);
+    let rows = |numbers: Vec<usize>| -> Vec<Vec<i128>> {
+        let equations = numbers
+            .into_iter()
+            .filter_map(|number| flows(fabric, number));
+        equations.collect()
+    };
+    let (of_queues, others) = (rows(of_queues), rows(others));
+    let all = [of_queues.clone(), others.clone()].concat();
+    of_queues.len() + rank(others) - rank(all)
+}
+
+fn flows(fabric: &Fabric, number: usize) -> Option<Vec<i128>> {
+    let component = &fabric.components[number / INDEXES];
+    let mut row = vec![0; MOST_COLOURS * fabric.channels];
+    for (flow, factor) in equation(component, fabric.colours, number % INDEXES)? {
+        row[flow.number()] += i128::from(factor);
+    }
+    Some(row)
+}
+
+fn wide(row: &[i64]) -> Vec<i128> {
+    row.iter().map(|&factor| i128::from(factor)).collect()
+}
+
+/// Modulo the prime.
+fn rank(mut rows: Vec<Vec<i128>>) -> usize {
+    let mut rank = 0;
+    for column in 0..rows.first().map_or(0, Vec::len) {
+        let Some(pivot) = (rank..rows.len()).find(|&row| rows[row][column] % PRIME != 0) else {
+            continue;
+        };
+        rows.swap(rank, pivot);
+        let (above, below) = rows.split_at_mut(rank + 1);
+        let pivot = &above[rank];
+        for row in below.iter_mut().filter(|row| row[column] % PRIME != 0) {
+            let (times, taken) = (pivot[column], row[column]);
+            for (factor, other) in row.iter_mut().zip(pivot) {
+                *factor = (*factor * times - other * taken) % PRIME;
+            }
+        }
+        rank += 1;
+    }
+    rank
+}
