@@ -1,6 +1,6 @@
 # make                            proves and builds the library, and stages it with header and fabric.pc below target/prefix
 # make panel                      builds the program over the staged library: target/rust/release/panel
-# make install PREFIX=..          library, header, fabric.pc, the C example, and the program; PREFIX is /usr/local unless given
+# make install PREFIX=..          library, header, fabric.pc, the C example, two pages, and the program; PREFIX is /usr/local unless given
 # make install-library PREFIX=..  the same without the program
 PREFIX = /usr/local
 STAGE = target/prefix
@@ -46,8 +46,9 @@ install: install-library $(PROGRAM)
 	install -m 755 $(PROGRAM) $(TO)/bin
 
 install-library: $(STAGED)
-	install -d $(TO)/lib/pkgconfig $(TO)/include $(TO)/share/fabric
+	install -d $(TO)/lib/pkgconfig $(TO)/include $(TO)/share/fabric $(TO)/share/doc/fabric
 	install -m 644 $(STAGE)/lib/libfabric.a $(TO)/lib
 	install -m 644 $(STAGE)/include/fabric.h $(TO)/include
 	install -m 644 $(STAGE)/lib/pkgconfig/fabric.pc $(TO)/lib/pkgconfig
 	install -m 644 host/example.c host/explain.c host/explain.h $(TO)/share/fabric
+	install -m 644 docs/FORMAT.md docs/NETLIST.md $(TO)/share/doc/fabric

@@ -187,7 +187,7 @@ enum fabric_kind {
 #define FABRIC_FORK_B_EQUATION(e) (e)         /* L(B,e) = all L(A,d) with d mapped to e by the first map */
 #define FABRIC_FORK_C_EQUATION(e) (8 + (e))   /* L(C,e) = all L(A,d) with d mapped to e by the second map */
 #define FABRIC_JOIN_EQUATION(e) (e)           /* L(C,e) = all L(A,d) with d mapped to e */
-#define FABRIC_JOIN_TOKEN_EQUATION 8          /* all L(A,d) = all L(B,d), for every C */
+#define FABRIC_JOIN_TOKEN_EQUATION 8          /* all L(A,d) = all L(B,d), however many colours there are */
 #define FABRIC_SWITCH_B_EQUATION(d) (d)       /* L(B,d) = L(A,d) if d goes to B, else 0 */
 #define FABRIC_SWITCH_C_EQUATION(d) (8 + (d)) /* L(C,d) = L(A,d) if d goes to C, else 0 */
 #define FABRIC_MERGE_EQUATION(d) (d)          /* L(C,d) = L(A,d) + L(B,d) */

@@ -1,12 +1,15 @@
 //! The calls of the library, with memory of the right size lent to each.
 
+use reference::blocks::{read_blocks, MOST_BLOCKS};
 use reference::check::weights_length;
+use reference::check_many::result_length;
 use reference::fabric::MOST_COMPONENTS;
 use reference::library::{
     fabric_ceiling, fabric_ceiling_place, fabric_ceiling_value, fabric_check,
-    fabric_check_constant, fabric_check_place, fabric_pack, fabric_pack_place, fabric_start,
-    fabric_start_place, fabric_step, fabric_step_place, fabric_unpack, fabric_unpack_channels,
-    fabric_unpack_colours, fabric_unpack_place,
+    fabric_check_constant, fabric_check_many, fabric_check_many_place, fabric_check_place,
+    fabric_pack, fabric_pack_place, fabric_start, fabric_start_place, fabric_step,
+    fabric_step_place, fabric_unpack, fabric_unpack_channels, fabric_unpack_colours,
+    fabric_unpack_place,
 };
 use reference::open_table::{read_row, ROW};
 use reference::packed::file_length;
@@ -115,14 +118,44 @@ pub fn check(file: &[u8], proposal: &[u8]) -> Result<Checked, Refused> {
     })?;
     let constant =
         unsafe { fabric_check_constant(fabric, fabric_len, given, given_len, to, to_len) };
-    let (entries, _) = bytes.as_chunks();
     Ok(Checked {
-        weights: entries
-            .iter()
-            .map(|entry| i64::from_le_bytes(*entry))
-            .collect(),
+        weights: entries(&bytes),
         constant,
     })
+}
+
+/// What check says of each block of a file of proposals. The file was accepted by `unpack`.
+pub fn check_many(file: &[u8], proposals: &[u8]) -> Result<Vec<Result<Checked, Refused>>, Refused> {
+    let size = result_length(usize::from(file[1]));
+    let mut bytes = vec![0; size * MOST_BLOCKS];
+    let (fabric, fabric_len) = (file.as_ptr(), file.len());
+    let (given, given_len) = (proposals.as_ptr(), proposals.len());
+    let (to, to_len) = (bytes.as_mut_ptr(), bytes.len());
+    let number = unsafe { fabric_check_many(fabric, fabric_len, given, given_len, to, to_len) };
+    accepted(number, || unsafe {
+        fabric_check_many_place(fabric, fabric_len, given, given_len, to, to_len)
+    })?;
+    let blocks = read_blocks(proposals).expect("an accepted file").len();
+    let results = bytes.chunks_exact(size).take(blocks);
+    Ok(results
+        .map(|result| block_result(&entries(result)))
+        .collect())
+}
+
+/// Number, place, K and weights.
+fn block_result(entries: &[i64]) -> Result<Checked, Refused> {
+    accepted(entries[0] as u32, || entries[1] as u64)?;
+    Ok(Checked {
+        weights: entries[3..].to_vec(),
+        constant: entries[2],
+    })
+}
+
+/// Signed numbers of 8 bytes, lowest first.
+fn entries(bytes: &[u8]) -> Vec<i64> {
+    let (entries, _) = bytes.as_chunks();
+    let number = |entry: &[u8; 8]| i64::from_le_bytes(*entry);
+    entries.iter().map(number).collect()
 }
 
 /// The most that a queue can hold of a colour.

@@ -2,6 +2,8 @@
 
 use std::path::Path;
 
+use reference::netlist::counted;
+
 use crate::arguments::{asks_for_help, folder};
 use crate::calls::{self, Checked};
 use crate::failure::Failure;
@@ -13,14 +15,15 @@ use crate::proofs;
 const HELP: &str = "\
 panel check [FOLDER]
 
-Has the library check FOLDER's proof.bin (by default the current folder's) for its fabric.bin, and
-prints the sum that it shows never to change:
+Has the library check FOLDER's proof.bin (by default the current folder's) for
+its fabric.bin, and prints the sum that it shows never to change:
 
     messages + credits = 2
 
-Under it stands the most that a queue with a weight above 0 can ever hold, by that sum. If there is a
-proofs.bin, the sums that it shows follow. A refused proof.bin is explained by the names of
-fabric.names, and with the number and place of the refusal as docs/FORMAT.md has them.
+Under it stands the most that a queue with a weight above 0 can ever hold, by
+that sum. If there is a proofs.bin, the sums that it shows follow. A refused
+proof.bin is explained by the names of fabric.names, and with the number and
+place of the refusal as docs/FORMAT.md has them.
 
 Exit code: 0 accepted, 1 refused, 2 a file cannot be read.
 ";
@@ -39,8 +42,8 @@ fn check(folder: &Path) -> Result<(), Failure> {
     let checked = proofs::checked(&opened, &proposal, &proof.display())?;
     let mut text = checked.equation(&opened.netlist) + "\n";
     text += &ceilings(&opened, &proposal, &checked)?;
-    text += &others(folder, &opened, &checked)?;
-    print(&text)
+    print(&text)?;
+    print(&others(folder, &opened, &checked)?)
 }
 
 /// A line for each queue and colour with a weight above 0.
@@ -72,16 +75,17 @@ fn ceilings(opened: &Opened, proposal: &[u8], checked: &Checked) -> Result<Strin
 
 /// The sums of proofs.bin but for that of proof.bin.
 fn others(folder: &Path, opened: &Opened, checked: &Checked) -> Result<String, Failure> {
-    let sums = proofs::accepted(folder, &opened.file)?;
-    let others = sums.iter().filter(|sum| *sum != checked);
+    let sums = proofs::sums(folder, &opened.file)?;
+    let others = sums.accepted.iter().filter(|sum| *sum != checked);
     let lines: Vec<String> = others.map(|sum| sum.equation(&opened.netlist)).collect();
-    if lines.is_empty() {
-        return Ok(String::new());
-    }
     let path = folder.join(PROOFS);
-    Ok(format!(
-        "\nby {} also:\n{}\n",
-        path.display(),
-        lines.join("\n")
-    ))
+    let path = path.display();
+    let mut text = String::new();
+    if !lines.is_empty() {
+        text += &format!("\nby {path} also:\n{}\n", lines.join("\n"));
+    }
+    if sums.refused > 0 {
+        text += &format!("\nrefused in {path}: {}\n", counted(sums.refused, "sum"));
+    }
+    Ok(text)
 }

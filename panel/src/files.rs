@@ -7,12 +7,19 @@ use std::io::ErrorKind;
 use std::path::{Path, PathBuf};
 
 use crate::failure::Failure;
+use crate::part::{failed, Part};
 
 pub const FABRIC: &str = "fabric.bin";
 pub const PROOF: &str = "proof.bin";
 
+/// How the name of a file of names ends.
+pub const NAMES: &str = "names";
+
 /// All sums that were found, a block each.
 pub const PROOFS: &str = "proofs.bin";
+
+/// Some editors begin a text with it.
+pub const BYTE_ORDER_MARK: char = '\u{FEFF}';
 
 pub fn read(path: &Path) -> Result<Vec<u8>, Failure> {
     fs::read(path).map_err(|error| failed(path, &error))
@@ -36,45 +43,31 @@ pub fn read_text(path: &Path) -> Result<String, Failure> {
 }
 
 pub fn text_of(bytes: Vec<u8>, said_in: &dyn Display) -> Result<String, Failure> {
-    String::from_utf8(bytes).map_err(|error| {
+    let text = String::from_utf8(bytes).map_err(|error| {
         let good = &error.as_bytes()[..error.utf8_error().valid_up_to()];
         let line = 1 + good.iter().filter(|byte| **byte == b'\n').count();
         Failure::Input(format!("{said_in}:{line}: this is no text in UTF-8"))
+    })?;
+    Ok(match text.strip_prefix(BYTE_ORDER_MARK) {
+        Some(text) => text.to_string(),
+        None => text,
     })
 }
 
 pub fn write(path: &Path, bytes: &[u8]) -> Result<(), Failure> {
-    let beside = beside(path);
-    let written = fs::write(&beside, bytes).and_then(|()| fs::rename(&beside, path));
-    written.map_err(|error| {
-        // It may not be there at all.
-        let _ = fs::remove_file(&beside);
-        failed(path, &error)
-    })
+    write_all(&[(path, bytes)])
 }
 
-/// A name of its own in the same folder.
-fn beside(path: &Path) -> PathBuf {
-    let mut name = path.file_name().unwrap_or_default().to_os_string();
-    name.push(format!(".{}.part", std::process::id()));
-    path.with_file_name(name)
-}
-
-fn failed(path: &Path, error: &std::io::Error) -> Failure {
-    let folder = path.parent().unwrap_or(Path::new(""));
-    let no_folder = || folder != Path::new("") && !folder.is_dir();
-    let why = match error.kind() {
-        ErrorKind::NotFound | ErrorKind::NotADirectory if no_folder() => {
-            format!("there is no folder {}", folder.display())
-        }
-        ErrorKind::NotFound => "there is no such file".to_string(),
-        ErrorKind::IsADirectory => "this is a folder".to_string(),
-        _ => error.to_string(),
-    };
-    Failure::Input(format!("{}: {why}", path.display()))
+/// All are written beside before the first is renamed.
+pub fn write_all(files: &[(&Path, &[u8])]) -> Result<(), Failure> {
+    let mut parts = Vec::new();
+    for (path, bytes) in files {
+        parts.push(Part::write(path, bytes)?);
+    }
+    parts.into_iter().try_for_each(Part::rename)
 }
 
 /// The netlist with the names of a fabric file.
 pub fn names_of(fabric: &Path) -> PathBuf {
-    fabric.with_extension("names")
+    fabric.with_extension(NAMES)
 }

@@ -9,6 +9,7 @@ mod files;
 mod opened;
 mod output;
 mod pack;
+mod part;
 mod proofs;
 mod propose;
 mod show;
@@ -26,14 +27,15 @@ use failure::Failure;
 const HELP: &str = "\
 panel: fabrics and sums by name
 
-  panel pack NETLIST [-o FILE]   packs a text netlist into FILE (NETLIST with .bin), keeps its names beside it (.names)
+  panel pack NETLIST [-o FILE]   packs a text netlist, and keeps its names
   panel show FILE                prints a packed fabric as a netlist
-  panel propose [FOLDER]         finds the sums of FOLDER's fabric.bin, writes proof.bin and proofs.bin
-  panel check [FOLDER]           says what fabric.bin and proof.bin show, or why not
+  panel propose [FOLDER]         finds the sums of fabric.bin, writes proof.bin
+  panel check [FOLDER]           says what fabric.bin and proof.bin show
   panel terms [FOLDER]           prints proof.bin as text
-  panel step [FOLDER [LESSON]]   steps the fabric on the screen, or by the commands of a lesson
+  panel step [FOLDER [LESSON]]   steps fabric.bin, on the screen or by a lesson
 
-panel COMMAND --help says more.
+panel COMMAND --help says more. Exit codes: 0 done, 1 refused by the library,
+2 a wrong command line, text or file.
 ";
 
 fn main() -> ExitCode {

@@ -1,5 +1,6 @@
 //! panel pack: a text netlist into a fabric file, with the names beside it.
 
+use std::ffi::OsStr;
 use std::path::{Path, PathBuf};
 
 use reference::netlist::{self, counted, Netlist};
@@ -7,21 +8,29 @@ use reference::netlist::{self, counted, Netlist};
 use crate::arguments::{asks_for_help, only_word, take_option};
 use crate::calls;
 use crate::failure::Failure;
-use crate::files;
+use crate::files::{self, NAMES};
 use crate::output::print;
 use crate::text_source::TextSource;
 use crate::words;
 
+/// How the name of a netlist ends, most often, and that of a fabric.
+const TEXT: &str = "txt";
+const PACKED: &str = "bin";
+
 const HELP: &str = "\
 panel pack NETLIST [-o FILE]
 
-Packs a text netlist into FILE, and writes it with its names beside FILE, with the
-extension .names, where the other commands look for them. Without -o, FILE is
-NETLIST with the extension .bin. NETLIST - is standard input.
+Packs a text netlist into FILE, and writes it with its names beside FILE, with
+the extension .names, where the other commands look for them. Without -o, FILE
+is NETLIST with the extension .bin. NETLIST - is standard input.
 
 A netlist has a line for each component; docs/NETLIST.md has all of it:
 
   queue   messages  sent -> arrived      capacity 2
+
+Pack again after each change of the text: the other commands read FILE.
+
+Exit code: 0 written, 1 refused, 2 a text or file cannot be read or written.
 ";
 
 pub fn command(words: &[String]) -> Result<(), Failure> {
@@ -48,7 +57,7 @@ pub fn command(words: &[String]) -> Result<(), Failure> {
 fn file_for(source: &TextSource, output: Option<String>) -> Result<PathBuf, Failure> {
     let file = match (output, source) {
         (Some(file), _) => PathBuf::from(file),
-        (None, TextSource::File(path)) => path.with_extension("bin"),
+        (None, TextSource::File(path)) => with_bin(path),
         (None, TextSource::StandardInput) => {
             let message = format!("'-o FILE' is needed for a netlist from {source}");
             return Err(Failure::Usage(message));
@@ -58,6 +67,8 @@ fn file_for(source: &TextSource, output: Option<String>) -> Result<PathBuf, Fail
         "is no name for a file"
     } else if source.is(&file) {
         "is the netlist itself: '-o FILE' has to name another file"
+    } else if file.extension().is_some_and(|end| end == TEXT) {
+        "is a name for a text: '-o FILE' has to name another file"
     } else if files::names_of(&file) == file {
         "is a name for the file of the names: '-o FILE' has to name another file"
     } else {
@@ -65,6 +76,20 @@ fn file_for(source: &TextSource, output: Option<String>) -> Result<PathBuf, Fail
     };
     let file = file.display();
     Err(Failure::Usage(format!("'{file}' {wrong}")))
+}
+
+/// `loop.bin` for `loop.txt`, and `v1.2.bin` for `v1.2`.
+fn with_bin(netlist: &Path) -> PathBuf {
+    let end = netlist
+        .extension()
+        .and_then(OsStr::to_str)
+        .unwrap_or_default();
+    if [TEXT, NAMES, PACKED].contains(&end) {
+        return netlist.with_extension(PACKED);
+    }
+    let mut name = netlist.as_os_str().to_os_string();
+    name.push(format!(".{PACKED}"));
+    PathBuf::from(name)
 }
 
 /// The file of the names and its text; `None` if it is the netlist, and has that text. Another

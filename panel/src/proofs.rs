@@ -3,8 +3,6 @@
 use std::fmt::Display;
 use std::path::Path;
 
-use reference::blocks::read_blocks;
-
 use crate::calls::{self, Checked, Refused};
 use crate::failure::Failure;
 use crate::files::{self, PROOF, PROOFS};
@@ -32,22 +30,32 @@ pub fn refusal(refused: Refused, opened: &Opened, proposal: &[u8], from: &impl D
     Failure::Refused(format!("{from}: {words}"))
 }
 
-/// That of proof.bin, then those of the blocks of proofs.bin, each once; a file that is not there,
-/// or that the library refuses, gives none.
-pub fn accepted(folder: &Path, fabric: &[u8]) -> Result<Vec<Checked>, Failure> {
-    let mut proposals: Vec<Vec<u8>> = Vec::new();
-    proposals.extend(files::read_if_there(&folder.join(PROOF))?);
-    let many = files::read_if_there(&folder.join(PROOFS))?.unwrap_or_default();
-    let blocks = read_blocks(&many).unwrap_or_default();
-    proposals.extend(blocks.into_iter().map(<[u8]>::to_vec));
-    let mut sums: Vec<Checked> = Vec::new();
-    for sum in proposals
-        .iter()
-        .filter_map(|proposal| calls::check(fabric, proposal).ok())
-    {
-        if !sums.contains(&sum) {
-            sums.push(sum);
-        }
+/// What the proposals of a folder come to for its fabric.
+#[derive(Default)]
+pub struct Sums {
+    /// Each once.
+    pub accepted: Vec<Checked>,
+    pub refused: usize,
+}
+
+/// Those of proof.bin, then of the blocks of proofs.bin; a file that is not there has none.
+pub fn sums(folder: &Path, fabric: &[u8]) -> Result<Sums, Failure> {
+    let mut sums = Sums::default();
+    let mut add = |checked: Result<Checked, Refused>| match checked {
+        Ok(sum) if sums.accepted.contains(&sum) => {}
+        Ok(sum) => sums.accepted.push(sum),
+        Err(_) => sums.refused += 1,
+    };
+    if let Some(proposal) = files::read_if_there(&folder.join(PROOF))? {
+        add(calls::check(fabric, &proposal));
+    }
+    let path = folder.join(PROOFS);
+    if let Some(proposals) = files::read_if_there(&path)? {
+        let results = calls::check_many(fabric, &proposals).map_err(|refused| {
+            let words = words::proposal::of_file(refused);
+            Failure::Refused(format!("{}: {words}", path.display()))
+        })?;
+        results.into_iter().for_each(add);
     }
     Ok(sums)
 }

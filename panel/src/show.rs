@@ -12,9 +12,12 @@ use crate::output::print;
 const HELP: &str = "\
 panel show FILE
 
-Prints the packed fabric in FILE as a text netlist, from which 'panel pack' makes
-the same file again. The names are those in the .names file that 'panel pack' left
-beside FILE; without one, components and channels are called by number.
+Prints the packed fabric in FILE as a text netlist, from which 'panel pack'
+makes the same file again. The names are those in the .names file that 'panel
+pack' left beside FILE; without one, components and channels are called by
+number.
+
+Exit code: 0 printed, 1 refused, 2 FILE cannot be read.
 ";
 
 pub fn command(words: &[String]) -> Result<(), Failure> {

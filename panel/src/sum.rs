@@ -15,30 +15,38 @@ impl Checked {
     }
 
     /// `messages + credits`. A queue that has one weight for all colours stands for all that it
-    /// holds; else `messages.red` is how many of a colour it holds.
+    /// holds; else `messages.red` is how many of a colour it holds. Weights below 0 come last.
     pub fn text(&self, netlist: &Netlist) -> String {
-        let names = &netlist.names;
+        let mut parts = self.parts(netlist);
+        parts.sort_by_key(|(weight, _)| *weight < 0);
         let mut text = String::new();
-        let mut add = |weight: i64, name: &str| {
+        for (weight, name) in parts {
             text += sign(weight < 0, text.is_empty());
             if weight.unsigned_abs() != 1 {
                 text += &format!("{} * ", weight.unsigned_abs());
             }
-            text += name;
-        };
+            text += &name;
+        }
+        text
+    }
+
+    /// Weights other than 0, each with what it weighs.
+    fn parts(&self, netlist: &Netlist) -> Vec<(i64, String)> {
+        let names = &netlist.names;
+        let mut parts = Vec::new();
         for (queue, weights) in self.by_queue(netlist) {
             let name = &names.components[queue];
             if weights.iter().all(|weight| *weight == weights[0]) {
-                add(weights[0], name);
+                parts.push((weights[0], name.clone()));
                 continue;
             }
             for (colour, &weight) in weights.iter().enumerate() {
                 if weight != 0 {
-                    add(weight, &format!("{name}.{}", names.colours[colour]));
+                    parts.push((weight, format!("{name}.{}", names.colours[colour])));
                 }
             }
         }
-        text
+        parts
     }
 
     /// What the sum is in a state.

@@ -2,7 +2,7 @@
 
 use std::path::Path;
 
-use reference::netlist::Netlist;
+use reference::netlist::{padded, Netlist};
 use reference::proposal_text::write_term;
 use reference::terms::{read_proposal, Term};
 
@@ -18,16 +18,16 @@ use crate::words::equations::equation_in_words;
 const HELP: &str = "\
 panel terms [FOLDER]
 
-Prints the proposal in FOLDER's proof.bin (by default the current folder's), a term a line, each with
-its equation in words:
+Prints the proposal in FOLDER's proof.bin (by default the current folder's), a
+term a line, each with its equation in words:
 
     1 * gate.8  # all on wanted - all on credit = 0
 
-which says that as many packets have moved on channel wanted as on credit since start. 'panel propose
---from' takes the text and writes the same proof.bin.
+which says that as many packets have moved on channel wanted as on credit since
+start. 'panel propose --from' takes the text and writes the same proof.bin.
 
-Exit code: 0 printed, 1 refused by the library (a term without an equation, for one), 2 a file cannot
-be read.
+Exit code: 0 printed, 1 refused by the library (a term without an equation, for
+one), 2 a file cannot be read.
 ";
 
 pub fn command(words: &[String]) -> Result<(), Failure> {
@@ -61,7 +61,7 @@ fn text(netlist: &Netlist, proposal: &[u8]) -> String {
     let width = lines.iter().map(|(term, _)| term.len()).max().unwrap_or(0);
     let lines = lines
         .iter()
-        .map(|(term, equation)| format!("{term:width$}  # {equation}\n"));
+        .map(|(term, equation)| format!("{}  # {equation}\n", padded(term, width)));
     lines.collect()
 }
 

@@ -72,17 +72,22 @@ fn the_sums_of_proofs_bin_once_each() {
     folder.write("proofs.bin", blocks);
     let out = "queue2 + queue5 = 2\n  queue2: at most 2, capacity 2\n\
                \x20 queue5: at most 2, capacity 2\n\nby proofs.bin also:\n\
-               queue8 + queue11 = 2\n2 * queue8 + 2 * queue11 = 4\n";
+               queue8 + queue11 = 2\n2 * queue8 + 2 * queue11 = 4\n\n\
+               refused in proofs.bin: 1 sum\n";
     assert_eq!(folder.panel(&["check"]), Said::printed(out));
     // Nothing but the sum of proof.bin, then no blocks at all.
-    let alone = out.split("\n\n").next().expect("a first part");
-    for proofs in [first.clone(), second[..9].to_vec()] {
-        folder.write("proofs.bin", proofs);
-        assert_eq!(
-            folder.panel(&["check"]),
-            Said::printed(&format!("{alone}\n"))
-        );
-    }
+    let alone = out.split("\n\n").next().expect("a first part").to_string() + "\n";
+    folder.write("proofs.bin", first);
+    assert_eq!(folder.panel(&["check"]), Said::printed(&alone));
+    folder.write("proofs.bin", &second[..9]);
+    let broken = Said {
+        out: alone,
+        ..Said::failed(
+            1,
+            "proofs.bin: this is no row of at most 64 whole proposals of at most 4096 terms (33)",
+        )
+    };
+    assert_eq!(folder.panel(&["check"]), broken);
 }
 
 #[test]

@@ -2,7 +2,7 @@
 
 mod common;
 
-use common::page::example;
+use common::page::indented;
 use common::{hex, Folder, CREDIT_FILE};
 
 const PAGE: &str = include_str!("../../docs/NETLIST.md");
@@ -17,11 +17,11 @@ const RING_FILE: &str = "12040554\
 #[test]
 fn its_examples_pack() {
     let folder = Folder::new("page-examples");
-    let ring = example(PAGE, "colours alarm fault");
+    let ring = indented(PAGE, "colours alarm fault");
     // As the document numbers them; the lines alone would number them otherwise.
     let order = "channels next left rest turned back\n";
     let examples = [
-        (example(PAGE, "# A message needs a credit."), CREDIT_FILE),
+        (indented(PAGE, "# A message needs a credit."), CREDIT_FILE),
         (order.to_string() + &ring, RING_FILE),
     ];
     for (text, file) in examples {
@@ -34,7 +34,7 @@ fn its_examples_pack() {
 #[test]
 fn its_messages_are_said() {
     let folder = Folder::new("page-messages");
-    let good = example(PAGE, "# A message needs a credit.");
+    let good = indented(PAGE, "# A message needs a credit.");
     let branches = "source s -> a
 fork f a -> b c
 switch x b -> d e first all

@@ -5,6 +5,7 @@ mod common;
 use std::ffi::OsStr;
 use std::fs;
 use std::os::unix::ffi::OsStrExt;
+use std::os::unix::fs::PermissionsExt;
 use std::path::Path;
 
 use common::{hex, said, usage, Folder, Said, CREDIT_FILE, CREDIT_LOOP};
@@ -158,6 +159,40 @@ fn the_netlist_is_no_place_for_the_fabric() {
 }
 
 #[test]
+fn a_name_that_ends_otherwise_is_kept_whole() {
+    let folder = Folder::new("pack-version");
+    folder.write("v1.2", CREDIT_LOOP);
+    assert_eq!(folder.panel(&["pack", "v1.2"]), credit_line("v1.2.bin"));
+    assert_eq!(folder.files(), ["v1.2", "v1.2.bin", "v1.2.names"]);
+}
+
+#[test]
+fn a_text_is_no_place_for_the_fabric() {
+    let folder = Folder::new("pack-onto-text");
+    folder.write("credit.txt", CREDIT_LOOP);
+    folder.write("mine.txt", "# mine");
+    let said = folder.panel(&["pack", "credit.txt", "-o", "mine.txt"]);
+    let message = "'mine.txt' is a name for a text: '-o FILE' has to name another file";
+    assert_eq!(said, usage(message));
+    assert_eq!(folder.read("mine.txt"), b"# mine");
+}
+
+#[test]
+fn a_file_that_is_there_keeps_its_permissions() {
+    let folder = Folder::new("pack-permissions");
+    folder.write("credit.txt", CREDIT_LOOP);
+    folder.write("credit.bin", "");
+    let only_mine = fs::Permissions::from_mode(0o600);
+    fs::set_permissions(folder.path("credit.bin"), only_mine).expect("set");
+    assert_eq!(
+        folder.panel(&["pack", "credit.txt"]),
+        credit_line("credit.bin")
+    );
+    let about = fs::metadata(folder.path("credit.bin")).expect("a file");
+    assert_eq!(about.permissions().mode() & 0o777, 0o600);
+}
+
+#[test]
 fn the_file_of_the_names_is_no_place_for_the_fabric() {
     let folder = Folder::new("pack-onto-names");
     folder.write("credit.txt", CREDIT_LOOP);
@@ -292,4 +327,43 @@ fn help() {
     assert_eq!((said.code, said.err.as_str()), (0, ""));
     assert!(said.out.contains("\n  panel pack NETLIST [-o FILE] "));
     assert!(said.out.contains("\n  panel show FILE "));
+}
+
+/// Names are as long as somebody writes them.
+#[test]
+fn a_very_long_name_is_packed_and_printed() {
+    let folder = Folder::new("pack-long-name");
+    let name = "q".repeat(70_000);
+    folder.write(
+        "fabric.txt",
+        format!("queue {name} a -> a capacity 1 filling 1\n"),
+    );
+    let line = "fabric.bin: 1 component, 1 channel, 1 colour, 17 bytes\n";
+    assert_eq!(folder.panel(&["pack", "fabric.txt"]), Said::printed(line));
+    let shown = format!("queue  {name}  a -> a  capacity 1 filling 1\n");
+    assert_eq!(folder.panel(&["show", "fabric.bin"]), Said::printed(&shown));
+    folder.panel(&["propose"]);
+    let terms = format!("1 * {name}.0  # all in {name} + all on a - all on a = 1\n");
+    assert_eq!(folder.panel(&["terms"]), Said::printed(&terms));
+}
+
+#[test]
+fn a_pipe_stays_a_pipe_and_a_link_a_link() {
+    let folder = Folder::new("pack-pipe-link");
+    folder.write("fabric.txt", CREDIT_LOOP);
+    let made = std::process::Command::new("mkfifo")
+        .arg(folder.path("pipe"))
+        .status();
+    assert!(made.expect("mkfifo").success());
+    let wrong = "pipe: this is a device or a pipe, no file";
+    let said = folder.panel(&["pack", "fabric.txt", "-o", "pipe"]);
+    assert_eq!(said, Said::failed(2, wrong));
+    assert_eq!(folder.files(), ["fabric.txt", "pipe"]);
+
+    folder.write("store", "");
+    std::os::unix::fs::symlink("store", folder.path("fabric.bin")).expect("a link");
+    let said = folder.panel(&["pack", "fabric.txt"]);
+    assert_eq!(said, credit_line("fabric.bin"));
+    assert_eq!(hex(&folder.read("store")), CREDIT_FILE);
+    assert!(folder.path("fabric.bin").is_symlink());
 }

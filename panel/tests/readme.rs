@@ -7,7 +7,7 @@ use std::path::Path;
 use std::process::Command;
 
 use common::on_terminal::OnTerminal;
-use common::page::example;
+use common::page::fenced;
 use common::{said, Folder, Said};
 
 const README: &str = include_str!("../../README.md");
@@ -23,7 +23,7 @@ fn path() -> String {
 /// What is to be pasted, in a shell.
 fn first_step(folder: &Folder) -> Said {
     let mut shell = Command::new("sh");
-    shell.args(["-ec", &example(README, "mkdir loop")]);
+    shell.args(["-ec", &fenced(README, "mkdir loop")]);
     said(
         shell
             .env("PATH", path())
@@ -36,7 +36,7 @@ fn first_step(folder: &Folder) -> Said {
 fn the_desk_s_first_step() {
     let folder = Folder::new("readme-desk");
     let first = "loop/fabric.bin: 6 components, 6 channels, 1 colour, 82 bytes";
-    assert_eq!(first_step(&folder), Said::printed(&example(README, first)));
+    assert_eq!(first_step(&folder), Said::printed(&fenced(README, first)));
 }
 
 #[test]
@@ -45,11 +45,11 @@ fn the_teacher_s_screen() {
     assert_eq!(first_step(&folder).code, 0);
     let mut terminal = OnTerminal::start(folder.command(&["step", "loop"]), 24, 80);
     terminal.press("\x1b[Css");
-    terminal.until_shown(&example(README, "loop/fabric.bin   step 2"));
+    terminal.until_shown(&fenced(README, "loop/fabric.bin   step 2"));
 }
 
 #[test]
 fn what_the_host_s_example_prints() {
     let first = HOST_PRINTS.lines().next().expect("a line");
-    assert_eq!(example(README, first), HOST_PRINTS);
+    assert_eq!(fenced(README, first), HOST_PRINTS);
 }

@@ -138,6 +138,44 @@ fn save_load_and_play_again() {
 }
 
 #[test]
+fn a_list_is_written_over_nothing_but_a_list() {
+    let folder = credit_loop("save_over");
+    folder.write("list.txt", "step\n");
+    assert!(played(&folder, "step\nsave list.txt\n").contains("saved 1 step to list.txt"));
+    assert_eq!(folder.read("list.txt"), b"step alarms=none\n");
+    folder.write("notes.txt", "choose alarms 0\n");
+    for file in ["notes.txt", "fabric.bin", "fabric.names", "proof.bin"] {
+        let before = folder.read(file);
+        let said = play(&folder, &format!("step\nsave {file}\n"));
+        let message = "this file is there already, and is no list of steps";
+        let message = format!("panel: lesson.txt:2: {file}: {message}\n");
+        assert_eq!((said.code, said.err), (2, message));
+        assert_eq!(folder.read(file), before);
+    }
+}
+
+#[test]
+fn a_byte_order_mark_is_no_word() {
+    let folder = credit_loop("marked");
+    let marked = format!("\u{FEFF}{LIST}");
+    assert_last(&played(&folder, &marked), 6);
+    folder.write("list.txt", marked);
+    assert_last(&played(&folder, "load list.txt\n"), 6);
+}
+
+#[test]
+fn why_there_are_no_sums() {
+    let folder = credit_loop("no_sums");
+    let says = |text: &str| assert!(played(&folder, "").contains(text), "{text}");
+    folder.write("proof.bin", [0, 0, 0, 1]);
+    says("the sums here are refused: 'panel check' says why\n");
+    fs::remove_file(folder.path("proof.bin")).expect("it was there");
+    says("no sums yet: 'panel propose' finds them\n");
+    let line = of_netlist("no_queue", "source in -> x\nsink out x\n");
+    assert!(played(&line, "").contains("no sums, since there is no queue\n"));
+}
+
+#[test]
 fn a_wrong_list_is_not_taken() {
     let folder = credit_loop("wrong_list");
     folder.write("list.txt", "step alarms=0\n\nrun 3\n");
@@ -252,8 +290,8 @@ fn wrong_lines_are_named() {
             "'run' is written: run COUNT [seed SEED]".into(),
         ),
         (
-            "run 1000001",
-            "'1000001' is too many: a run takes at most 1000000 steps".into(),
+            "run 100001",
+            "'100001' is too many: a run takes at most 100000 steps".into(),
         ),
         ("back 1 2", "'back' is written: back [COUNT]".into()),
         ("save", "'save' is written: save FILE".into()),

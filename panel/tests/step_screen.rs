@@ -4,6 +4,7 @@
 mod common;
 
 use std::os::unix::process::ExitStatusExt;
+use std::process::Command;
 
 use common::folders::{credit_loop, of_fabric, of_netlist};
 use common::on_terminal::OnTerminal;
@@ -168,6 +169,12 @@ fn commands_on_the_screen() {
         START,
         "'walk' is no command: choose, step, run, back, save, load, show, quit",
     ));
+    // Nothing interrupts a run on the screen.
+    terminal.press(":run 10001\r");
+    terminal.until_shown(&with_message(
+        START,
+        "a run on the screen takes at most 10000 steps",
+    ));
     terminal.press(":choose alarms 0\r");
     terminal.press("ss");
     terminal.until_shown(TWO_STEPS);
@@ -179,6 +186,7 @@ fn help_covers_the_panel_until_a_key() {
     let mut terminal = started(&folder);
     terminal.press("?");
     terminal.until_row(2, "up, down      select a chooser");
+    terminal.until_row(16, "any key       back to the panel");
     let words = terminal.screen.text().join("\n");
     for key in [
         "left, right",
@@ -280,6 +288,33 @@ sink    t  b
     assert_eq!(shown[7], "                   0");
 }
 
+/// Six packets find room in a line, so a full queue takes 11 lines and an empty one 1: fewer are left
+/// than were scrolled away.
+#[test]
+fn a_panel_that_gets_shorter_is_still_seen() {
+    let one = |number: usize| {
+        format!(
+            "source s{number} -> a{number}\nqueue q{number} a{number} -> b{number} capacity 63\n\
+             sink t{number} b{number}\n"
+        )
+    };
+    let netlist: String = (0..9).map(one).collect();
+    let folder = of_netlist("shorter", &format!("colours emergency\n{netlist}"));
+    let mut terminal = stepping(&folder);
+    let all_emit: String = (0..9).map(|s| format!(" s{s}=emergency")).collect();
+    folder.write(
+        "fill.txt",
+        format!("step{all_emit}\n") + &"step\n".repeat(62),
+    );
+    terminal.press(":load fill.txt\r");
+    terminal.until_row(MESSAGE, "loaded 63 steps");
+    terminal.press(&PAGE_DOWN.repeat(15));
+    terminal.until_row(0, "./fabric.bin   step 63   lines 124 to 143 of 143");
+    terminal.press(":back 63\r");
+    terminal.until_row(0, "./fabric.bin   step 0   lines 34 to 53 of 53");
+    terminal.until_row(ROWS - 3, "  b8 ");
+}
+
 #[test]
 fn windows_of_any_size() {
     let folder = credit_loop("any_size");
@@ -291,7 +326,8 @@ fn windows_of_any_size() {
     for (rows, columns) in [(1, 1), (1, 200), (2, 5), (3, 3), (4, 1), (9, 39), (60, 2)] {
         terminal.resize(rows, columns);
         let title = "./fabric.bin   step 0   lines 1 to";
-        let begin = &title[..columns.min(21)];
+        // The last place marks a cut.
+        let begin = &title[..(columns - 1).min(21)];
         terminal.until("all drawn", |screen| {
             let drawn = screen.cells().all(|cell| cell.character != '#');
             drawn && screen.text()[0].starts_with(begin.trim_end())
@@ -384,27 +420,68 @@ fn the_terminal_is_left_as_it_was_found_after_a_signal() {
     }
 }
 
+/// A shell that waits for a line before it tells the stopped program to go on.
 #[test]
 fn a_stop_leaves_the_terminal_to_the_shell() {
-    const CONTINUE: i32 = 18;
-    const TERMINAL_STOP: i32 = 20;
     let folder = credit_loop("stopped");
+    let mut shell = Command::new("bash");
+    let script = "set -m; \"$0\" step .; read -r line; fg >/dev/null";
+    shell.args(["--norc", "-c", script, env!("CARGO_BIN_EXE_panel")]);
+    shell.current_dir(folder.path(".")).env("TERM", "xterm");
+    let mut terminal = OnTerminal::start(shell, ROWS, COLUMNS);
+    terminal.until_shown(START);
+    terminal.press(CONTROL_Z);
+    terminal.until("the shell's screen", |screen| {
+        !screen.on_alternate && screen.shows_cursor
+    });
+    terminal.until_modes_are_back();
+    terminal.press("go on\r");
+    terminal.until_shown(START);
+    assert_ne!(terminal.pty.modes(), terminal.modes_before);
+    terminal.press("q");
+    assert_eq!(terminal.end().code(), Some(0));
+    terminal.until_modes_are_back();
+}
+
+/// Nobody could tell it to go on.
+#[test]
+fn without_a_shell_there_is_no_stop() {
+    const TERMINAL_STOP: i32 = 20;
+    let folder = credit_loop("not_stopped");
     let mut terminal = started(&folder);
-    for by_key in [true, false] {
-        if by_key {
-            terminal.press(CONTROL_Z);
-        } else {
-            terminal.signal(TERMINAL_STOP);
-        }
-        terminal.until_given_back();
-        terminal.until_stopped();
-        terminal.signal(CONTINUE);
-        terminal.until_shown(START);
-        assert_ne!(terminal.pty.modes(), terminal.modes_before);
-    }
+    terminal.press(CONTROL_Z);
+    terminal.signal(TERMINAL_STOP);
+    terminal.press(RIGHT);
+    terminal.press("ss");
+    terminal.until_shown(TWO_STEPS);
     terminal.press("q");
     assert_eq!(terminal.end().code(), Some(0));
     terminal.until_given_back();
+}
+
+#[test]
+fn a_terminal_that_cannot_draw_takes_commands() {
+    let folder = credit_loop("cannot_draw");
+    for name in ["dumb", ""] {
+        let mut command = folder.command(&["step", "."]);
+        command.env("TERM", name);
+        let mut terminal = OnTerminal::start(command, 60, 80);
+        terminal.press("step alarms=0\rquit\r");
+        assert_eq!(terminal.end().code(), Some(0));
+        terminal.until("the end", |screen| screen.text().contains(&"> quit".into()));
+        assert!(!terminal.screen.on_alternate);
+        assert_eq!(terminal.pty.modes(), terminal.modes_before);
+    }
+}
+
+#[test]
+fn alt_and_a_letter_do_nothing() {
+    let folder = credit_loop("alt");
+    let mut terminal = started(&folder);
+    terminal.press(RIGHT);
+    terminal.press("ss\x1bb\x1bq");
+    terminal.press("w");
+    terminal.until_shown(&with_message(TWO_STEPS, "save the steps to: ./choices.txt"));
 }
 
 #[test]

@@ -14,7 +14,7 @@
 use std::iter::Peekable;
 
 use crate::equations::INDEXES;
-use crate::netlist::TextError;
+use crate::netlist::{quoted, TextError};
 use crate::terms::{fits, Term, MOST_TERMS, MULTIPLIER_BOUND};
 
 /// The components are given by their names.
@@ -47,7 +47,7 @@ fn read_line(line: &str, components: &[String], terms: &mut Vec<Term>) -> Result
     while let Some(&word) = words.peek() {
         let sign = signs(words);
         if sign.is_none() && !first {
-            return Err(format!("'+' or '-' is missing before '{word}'"));
+            return Err(format!("'+' or '-' is missing before {}", quoted(word)));
         }
         if terms.len() == MOST_TERMS {
             return Err(format!("there are more than {MOST_TERMS} terms"));
@@ -100,14 +100,16 @@ fn multiplier_in(number: &str, sign: i64) -> Result<i64, String> {
 
 fn equation_in(word: &str, components: &[String]) -> Result<(usize, usize), String> {
     if !word.starts_with(|letter: char| letter.is_ascii_alphabetic()) {
-        return Err(format!("'{word}' stands where a component should"));
+        return Err(format!("{} stands where a component should", quoted(word)));
     }
     let (name, index) = word.split_once('.').unwrap_or((word, ""));
     let component = components.iter().position(|other| other == name);
-    let component = component.ok_or_else(|| format!("'{name}' is no component"))?;
-    let index = index.parse().ok().filter(|&index| index < INDEXES);
-    let most = INDEXES - 1;
-    let index = index.ok_or_else(|| format!("'{word}' has no index: {name}.0 to {name}.{most}"))?;
+    let component = component.ok_or_else(|| format!("{} is no component", quoted(name)))?;
+    let known = index.parse().ok().filter(|&index| index < INDEXES);
+    let index = known.ok_or_else(|| match index {
+        "" => format!("{} has no index, as {name}.0 has", quoted(word)),
+        _ => format!("{}: an index is 0 to {}", quoted(word), INDEXES - 1),
+    })?;
     Ok((component, index))
 }
 

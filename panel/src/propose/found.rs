@@ -18,58 +18,55 @@ use crate::words::proposal::of_proposal;
 /// Prints all, and writes that with the number, from 1, to proof.bin.
 pub fn propose(folder: &Path, opened: &Opened, number: usize) -> Result<(), Failure> {
     let basis = sum_basis(&opened.netlist.fabric);
-    let (sums, lines) = accepted(opened, basis.sums);
+    let (sums, lines) = accepted(opened, basis.sums)?;
     if sums.is_empty() {
         let why = why_none(&opened.netlist.fabric, basis.left_out);
         return Err(Failure::Refused(format!("{why}; nothing is written")));
     }
     let terms = sums.get(number - 1).ok_or_else(|| {
         let found = counted(sums.len(), "sum");
-        Failure::Usage(format!("there is no sum {number}: {found} found"))
+        Failure::Input(format!("there is no sum {number}: {found} found"))
     })?;
     print(&(lines + "\n"))?;
-    write_one(&folder.join(PROOF), number, terms)?;
-    write_all(&folder.join(PROOFS), &sums)?;
+    write(folder, number, terms, &sums)?;
     match basis.left_out {
         0 => Ok(()),
         count => print(&format!("left out: {}\n", too_large(count))),
     }
 }
 
-/// The terms of those that the library accepts, and a line for each.
-fn accepted(opened: &Opened, found: Vec<Vec<Term>>) -> (Vec<Vec<Term>>, String) {
-    let (mut sums, mut lines) = (Vec::new(), String::new());
-    for terms in found {
-        let proposal = write_proposal(&terms);
-        match calls::check(&opened.file, &proposal) {
-            Ok(checked) => {
-                lines += &(checked.equation(&opened.netlist) + "\n");
-                sums.push(terms);
-            }
-            Err(refused) => {
-                let words = of_proposal(refused, &proposal, &opened.netlist);
-                eprintln!("panel: a sum that was found is refused: {words}");
-            }
-        }
+/// The terms of each, and a line for each, as the library accepted them. It accepts all, unless
+/// the equations that they were found by are not its own.
+fn accepted(opened: &Opened, found: Vec<Vec<Term>>) -> Result<(Vec<Vec<Term>>, String), Failure> {
+    let mut lines = String::new();
+    for terms in &found {
+        let proposal = write_proposal(terms);
+        let checked = calls::check(&opened.file, &proposal).map_err(|refused| {
+            let words = of_proposal(refused, &proposal, &opened.netlist);
+            Failure::Differ(format!("the library refuses a sum that was found: {words}"))
+        })?;
+        lines += &(checked.equation(&opened.netlist) + "\n");
     }
-    (sums, lines)
+    Ok((found, lines))
 }
 
-fn write_one(path: &Path, number: usize, terms: &[Term]) -> Result<(), Failure> {
-    files::write(path, &write_proposal(terms))?;
-    let (path, count) = (path.display(), counted(terms.len(), "term"));
-    print(&format!("written: {path} with sum {number}, {count}\n"))
-}
-
-fn write_all(path: &Path, sums: &[Vec<Term>]) -> Result<(), Failure> {
-    let first = &sums[..sums.len().min(MOST_BLOCKS)];
-    files::write(path, &write_blocks(first))?;
-    let all = counted(sums.len(), "sum");
-    let which = match sums.len() > MOST_BLOCKS {
-        true => format!("the first {MOST_BLOCKS} of {all}, the most that it can have"),
-        false => all,
+/// proof.bin and proofs.bin, which has as many sums as it can have.
+fn write(folder: &Path, number: usize, one: &[Term], all: &[Vec<Term>]) -> Result<(), Failure> {
+    let (proof, proofs) = (folder.join(PROOF), folder.join(PROOFS));
+    let first = &all[..all.len().min(MOST_BLOCKS)];
+    files::write_all(&[
+        (&proof, &write_proposal(one)),
+        (&proofs, &write_blocks(first)),
+    ])?;
+    let (terms, sums) = (counted(one.len(), "term"), counted(all.len(), "sum"));
+    let which = match all.len() > MOST_BLOCKS {
+        true => format!("the first {MOST_BLOCKS} of {sums}, the most that it can have"),
+        false => sums,
     };
-    print(&format!("written: {} with {which}\n", path.display()))
+    let (proof, proofs) = (proof.display(), proofs.display());
+    print(&format!(
+        "written: {proof} with sum {number}, {terms}\nwritten: {proofs} with {which}\n"
+    ))
 }
 
 fn why_none(fabric: &Fabric, left_out: usize) -> String {

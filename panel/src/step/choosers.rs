@@ -2,7 +2,7 @@
 
 use reference::choices::is_allowed;
 use reference::component::MOST_COLOURS;
-use reference::netlist::Netlist;
+use reference::netlist::{quoted, Netlist};
 use reference::random::Random;
 use reference::state::colour_or_none;
 use reference::{Component, Fabric, Kind};
@@ -76,10 +76,8 @@ pub fn byte(netlist: &Netlist, component: usize, word: &str) -> Result<u8, Strin
     let numbered = colour.and_then(|colour: u8| colour.checked_add(1));
     numbered.ok_or_else(|| {
         let choices = choices.join(", ");
-        format!(
-            "'{word}' is no choice of {} '{name}': {choices}",
-            kind.name()
-        )
+        let (word, kind) = (quoted(word), kind.name());
+        format!("{word} is no choice of {kind} '{name}': {choices}")
     })
 }
 

@@ -2,7 +2,7 @@
 
 use std::path::PathBuf;
 
-use reference::netlist::Netlist;
+use reference::netlist::{quoted, Netlist};
 
 use super::choosers;
 use super::number::number;
@@ -32,7 +32,7 @@ pub enum Command {
 }
 
 /// What a run takes at most.
-const MOST_STEPS: usize = 1_000_000;
+const MOST_STEPS: usize = 100_000;
 
 const COMMANDS: &str = "choose, step, run, back, save, load, show, quit";
 
@@ -68,7 +68,7 @@ fn wrong(command: &str) -> String {
         "save" => "save FILE",
         "load" => "load FILE",
         "show" | "quit" => return format!("nothing comes after '{command}'"),
-        _ => return format!("'{command}' is no command: {COMMANDS}"),
+        _ => return format!("{} is no command: {COMMANDS}", quoted(command)),
     };
     format!("'{command}' is written: {form}")
 }
@@ -87,7 +87,7 @@ fn choices(netlist: &Netlist, words: &[&str]) -> Result<Vec<Choice>, String> {
     for word in words {
         let (name, chosen) = word
             .split_once('=')
-            .ok_or_else(|| format!("'{word}' is no choice, such as NAME=CHOICE"))?;
+            .ok_or_else(|| format!("{} is no choice, such as NAME=CHOICE", quoted(word)))?;
         let choice = choice(netlist, name, chosen)?;
         if read.iter().any(|other| other.component == choice.component) {
             return Err(format!("'{name}' chooses twice"));
@@ -100,7 +100,7 @@ fn choices(netlist: &Netlist, words: &[&str]) -> Result<Vec<Choice>, String> {
 fn choice(netlist: &Netlist, name: &str, word: &str) -> Result<Choice, String> {
     let names = &netlist.names.components;
     let component = names.iter().position(|other| other == name);
-    let component = component.ok_or_else(|| format!("'{name}' is no component"))?;
+    let component = component.ok_or_else(|| format!("{} is no component", quoted(name)))?;
     Ok(Choice {
         component,
         byte: choosers::byte(netlist, component, word)?,

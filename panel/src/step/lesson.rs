@@ -7,6 +7,7 @@ use super::command;
 use super::session::{Done, Session};
 use super::view::{self, NO_LIMIT};
 use crate::failure::Failure;
+use crate::files::BYTE_ORDER_MARK;
 use crate::output::print;
 
 /// `name` is what the lines are called where one is wrong.
@@ -15,7 +16,8 @@ pub fn play(session: &mut Session, name: &str, lines: impl BufRead) -> Result<()
     for (place, line) in lines.lines().enumerate() {
         let at = |failure: Failure| failure.at(&format!("{name}:{}", place + 1));
         let line = line.map_err(|error| at(Failure::Input(error.to_string())))?;
-        let read = command::read(&line, &session.opened.netlist);
+        let line = line.trim_start_matches(BYTE_ORDER_MARK);
+        let read = command::read(line, &session.opened.netlist);
         let Some(command) = read.map_err(|message| at(Failure::Input(message)))? else {
             continue;
         };

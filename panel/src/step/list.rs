@@ -1,6 +1,6 @@
 //! A list of steps as text: a line `step alarms=0 porter=take` for each, which is a lesson too.
 
-use reference::netlist::Netlist;
+use reference::netlist::{quoted, Netlist};
 
 use super::choosers::{choosers, word};
 use super::command::{self, Choice, Command};
@@ -37,9 +37,8 @@ pub fn read(text: &str, netlist: &Netlist) -> Result<Vec<Step>, (usize, String)>
             Some(Command::Step(choices)) => steps.push((place + 1, choices)),
             Some(_) => {
                 let word = line.split_whitespace().next().unwrap_or_default();
-                return Err(wrong(format!(
-                    "'{word}' is no step: a list has steps alone"
-                )));
+                let word = quoted(word);
+                return Err(wrong(format!("{word} is no step: a list has steps alone")));
             }
         }
     }

@@ -28,10 +28,10 @@ use session::Session;
 const HELP: &str = "\
 panel step [FOLDER [LESSON]]
 
-Steps FOLDER's fabric.bin (by default the current folder's). On a terminal it is
-shown on the screen; '?' lists the keys. With a LESSON, or where standard input or output is no terminal, it
-takes commands, one a line ('#' begins a comment), and prints the panel after
-each:
+Steps FOLDER's fabric.bin (by default the current folder's). On a terminal it
+is shown on the screen; '?' lists the keys. With a LESSON, or where standard
+input or output is no terminal that can draw, it takes commands, one a line
+('#' begins a comment), and prints the panel after each:
 
   choose NAME CHOICE      of a source a colour or none, of a sink take or no,
                           of a merge the channel of an input
@@ -46,6 +46,9 @@ each:
   load FILE               takes such steps from the start
   show                    prints the panel
   quit                    ends
+
+Nothing is written over by 'save' but an earlier list. Exit code: 0 ended, 1 a
+choice is refused, 2 a line or file cannot be read or written.
 ";
 
 pub fn command(words: &[String]) -> Result<(), Failure> {
@@ -70,8 +73,13 @@ fn play(session: &mut Session, lesson: &str) -> Result<(), Failure> {
 }
 
 fn step(mut session: Session) -> Result<(), Failure> {
-    if io::stdin().is_terminal() && io::stdout().is_terminal() {
+    if io::stdin().is_terminal() && io::stdout().is_terminal() && can_draw() {
         return screen::show(session);
     }
     lesson::play(&mut session, "standard input", io::stdin().lock())
+}
+
+/// Whether the terminal says that it is more than paper.
+fn can_draw() -> bool {
+    std::env::var("TERM").is_ok_and(|name| !["", "dumb"].contains(&name.as_str()))
 }

@@ -9,11 +9,10 @@ use super::choosers::choosers;
 use super::command::Command;
 use super::list;
 use super::walk::Walk;
-use crate::calls::Checked;
 use crate::failure::Failure;
 use crate::files::{self, FABRIC};
 use crate::opened::{self, Opened};
-use crate::proofs;
+use crate::proofs::{self, Sums};
 
 /// Seeds of runs that are given none are below it, so that they are easily typed.
 const NEW_SEEDS: u64 = 1_000_000;
@@ -21,7 +20,7 @@ const NEW_SEEDS: u64 = 1_000_000;
 pub struct Session {
     pub path: PathBuf,
     pub opened: Opened,
-    pub sums: Vec<Checked>,
+    pub sums: Sums,
     pub choosers: Vec<usize>,
     pub walk: Walk,
 }
@@ -38,7 +37,7 @@ impl Session {
         let opened = opened::open(&path)?;
         Ok(Session {
             path,
-            sums: proofs::accepted(folder, &opened.file)?,
+            sums: proofs::sums(folder, &opened.file)?,
             choosers: choosers(&opened.netlist.fabric),
             walk: Walk::from_start(&opened)?,
             opened,
@@ -98,7 +97,16 @@ impl Session {
         Ok(format!("back at step {steps}"))
     }
 
+    /// Writes over nothing but an earlier list.
     fn save(&self, file: &Path) -> Result<String, Failure> {
+        if let Some(bytes) = files::read_if_there(file)? {
+            let text = String::from_utf8(bytes).ok();
+            let list = text.and_then(|text| list::read(&text, &self.opened.netlist).ok());
+            if list.is_none() {
+                let message = "this file is there already, and is no list of steps";
+                return Err(Failure::Input(format!("{}: {message}", file.display())));
+            }
+        }
         let trail = &self.walk.trail;
         let text = list::write(&self.opened.netlist, trail.steps());
         files::write(file, text.as_bytes())?;

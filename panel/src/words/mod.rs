@@ -24,3 +24,11 @@ pub fn sign(negative: bool, first: bool) -> &'static str {
         (true, false) => " - ",
     }
 }
+
+/// `0, 1 and 8`
+pub fn listed(words: &[String]) -> String {
+    match words.split_last() {
+        Some((last, rest)) if !rest.is_empty() => format!("{} and {last}", rest.join(", ")),
+        _ => words.concat(),
+    }
+}

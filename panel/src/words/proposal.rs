@@ -1,4 +1,4 @@
-//! Refusals of a proposal: 11 to 14.
+//! Refusals of a proposal, 11 to 14, and of a file of proposals, 33.
 
 use reference::equations::{equation, INDEXES};
 use reference::netlist::Netlist;
@@ -7,7 +7,7 @@ use reference::terms::{read_proposal, Term, MOST_TERMS, TERM};
 use reference::Kind;
 
 use super::equations::colour;
-use super::number_and_place;
+use super::{listed, number_and_place};
 use crate::calls::Refused;
 
 /// So many terms with the flow that is left are said.
@@ -25,6 +25,15 @@ pub fn of_proposal(refused: Refused, proposal: &[u8], netlist: &Netlist) -> Stri
         13 => flow_left(netlist, place, &terms),
         14 => no_weight(netlist, &terms),
         _ => "refused".to_string(),
+    };
+    format!("{said} {}", number_and_place(refused))
+}
+
+/// A file of proposals that check_many refuses.
+pub fn of_file(refused: Refused) -> String {
+    let said = match refused.number {
+        33 => "this is no row of at most 64 whole proposals of at most 4096 terms",
+        _ => "refused",
     };
     format!("{said} {}", number_and_place(refused))
 }
@@ -59,14 +68,6 @@ fn no_equation(netlist: &Netlist, place: usize, term: &Term) -> String {
         (there, _) => format!("has no equation {}; it has {}", term.index, listed(there)),
     };
     format!("term {place}: {text}: {kind} '{name}' {missing}")
-}
-
-/// `0, 1 and 8`
-fn listed(words: &[String]) -> String {
-    match words.split_last() {
-        Some((last, rest)) if !rest.is_empty() => format!("{} and {last}", rest.join(", ")),
-        _ => words.concat(),
-    }
 }
 
 fn flow_left(netlist: &Netlist, flow: usize, terms: &[Term]) -> String {

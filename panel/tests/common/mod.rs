@@ -74,6 +74,7 @@ impl Folder {
     pub fn command(&self, words: &[&str]) -> Command {
         let mut command = Command::new(env!("CARGO_BIN_EXE_panel"));
         command.args(words).current_dir(&self.0);
+        command.env("TERM", "xterm");
         command
     }
 }

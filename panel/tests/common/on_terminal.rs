@@ -108,14 +108,8 @@ impl OnTerminal {
         status.expect("waited for")
     }
 
-    /// Waits until the program is stopped.
-    pub fn until_stopped(&self) {
-        let file = format!("/proc/{}/stat", self.child.id());
-        wait(|| {
-            std::fs::read_to_string(&file)
-                .expect("a status")
-                .contains(") T ")
-        });
+    pub fn until_modes_are_back(&self) {
+        wait(|| self.pty.modes() == self.modes_before);
     }
 
     /// Waits until the terminal is as it was found.
@@ -123,7 +117,7 @@ impl OnTerminal {
         self.until("the screen of the beginning", |screen| {
             !screen.on_alternate && screen.shows_cursor
         });
-        wait(|| self.pty.modes() == self.modes_before);
+        self.until_modes_are_back();
         assert_eq!(self.screen.text()[0], PROMPT);
         assert_eq!(self.screen.cursor, (0, PROMPT.len()));
     }

@@ -18,6 +18,7 @@ extern "C" {
 
 const READ_AND_WRITE: c_int = 2;
 const NOT_CONTROLLING: c_int = 0o400;
+const CLOSED_ON_EXEC: c_int = 0o2_000_000;
 const SET_CONTROLLING: c_ulong = 0x540e;
 const SET_WINDOW_SIZE: c_ulong = 0x5414;
 
@@ -34,7 +35,7 @@ pub struct Pty {
 
 impl Pty {
     pub fn open(rows: usize, columns: usize) -> Pty {
-        let flags = READ_AND_WRITE | NOT_CONTROLLING;
+        let flags = READ_AND_WRITE | NOT_CONTROLLING | CLOSED_ON_EXEC;
         let master = unsafe { File::from_raw_fd(checked(posix_openpt(flags))) };
         let mut name = [0; 128];
         unsafe {

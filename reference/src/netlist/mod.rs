@@ -18,7 +18,7 @@ use crate::fabric::Fabric;
 
 pub use names::{is_name, Names, NAME_RULE};
 pub use read::{read, TextError};
-pub use wording::{counted, quoted};
+pub use wording::{counted, padded, quoted};
 pub use write::write;
 
 /// The word between inputs and outputs, and between the two colours of a map's entry.

@@ -36,3 +36,8 @@ pub fn port_counts(kind: Kind) -> String {
 pub fn called(kind: Kind, name: &str) -> String {
     format!("{} {}", kind.name(), quoted(name))
 }
+
+/// Blanks up to a width, however large: a format's own width ends at 65,535.
+pub fn padded(text: &str, width: usize) -> String {
+    text.to_string() + &" ".repeat(width.saturating_sub(text.len()))
+}

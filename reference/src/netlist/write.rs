@@ -2,6 +2,7 @@
 
 use super::fields::{CAPACITY, COLOUR, EMITS, FILLING, FIRST, MAP, SECOND};
 use super::names::numbers;
+use super::wording::padded;
 use super::{Netlist, ALL, ARROW, CHANNELS, COLOURS, NONE};
 use crate::component::{Component, Kind};
 
@@ -79,7 +80,8 @@ fn component_lines(netlist: &Netlist) -> String {
     let [w0, w1, w2] = [0, 1, 2].map(|column| width(column).unwrap_or(0));
     let mut text = String::new();
     for [kind, name, ports, fields] in &lines {
-        let line = format!("{kind:w0$}  {name:w1$}  {ports:w2$}  {fields}");
+        let (kind, name, ports) = (padded(kind, w0), padded(name, w1), padded(ports, w2));
+        let line = format!("{kind}  {name}  {ports}  {fields}");
         text += line.trim_end();
         text += "\n";
     }

@@ -13,7 +13,11 @@ const LIST: &str = "choices.txt";
 /// How many steps a key runs.
 const RUN: usize = 100;
 
-pub enum Flow {
+/// What a key leads to.
+/// Nothing interrupts a run, so it takes a second at most.
+const LONGEST_RUN: usize = 10_000;
+
+pub enum After {
     Goes,
     DrawsAgain,
     Stops,
@@ -49,11 +53,11 @@ impl Screen {
         }
     }
 
-    pub fn key(&mut self, key: Key) -> Result<Flow, Failure> {
+    pub fn key(&mut self, key: Key) -> Result<After, Failure> {
         match (&mut self.mode, key) {
-            (_, Key::Control('c')) => return Ok(Flow::Ends),
-            (_, Key::Control('l')) => return Ok(Flow::DrawsAgain),
-            (_, Key::Control('z')) => return Ok(Flow::Stops),
+            (_, Key::Control('c')) => return Ok(After::Ends),
+            (_, Key::Control('l')) => return Ok(After::DrawsAgain),
+            (_, Key::Control('z')) => return Ok(After::Stops),
             (Mode::Panel, _) => return self.panel_key(key),
             (Mode::Help, _) => self.mode = Mode::Panel,
             (Mode::Asks(prompt), _) => match prompt.key(key) {
@@ -62,10 +66,10 @@ impl Screen {
                 Typed::Entered => return self.entered(),
             },
         }
-        Ok(Flow::Goes)
+        Ok(After::Goes)
     }
 
-    fn panel_key(&mut self, key: Key) -> Result<Flow, Failure> {
+    fn panel_key(&mut self, key: Key) -> Result<After, Failure> {
         self.message.clear();
         match key {
             Key::Up => self.select(self.selected.saturating_sub(1)),
@@ -78,10 +82,10 @@ impl Screen {
             Key::Character('?') => self.mode = Mode::Help,
             _ => {
                 let command = self.command_of(key);
-                return command.map_or(Ok(Flow::Goes), |command| self.perform(&command));
+                return command.map_or(Ok(After::Goes), |command| self.perform(&command));
             }
         }
-        Ok(Flow::Goes)
+        Ok(After::Goes)
     }
 
     fn command_of(&mut self, key: Key) -> Option<Command> {
@@ -110,7 +114,7 @@ impl Screen {
         self.ask(purpose, usual.display().to_string());
     }
 
-    fn entered(&mut self) -> Result<Flow, Failure> {
+    fn entered(&mut self) -> Result<After, Failure> {
         if let Mode::Asks(prompt) = std::mem::replace(&mut self.mode, Mode::Panel) {
             match prompt.command(&self.session.opened.netlist) {
                 Ok(Some(command)) => return self.perform(&command),
@@ -118,18 +122,26 @@ impl Screen {
                 Err(message) => self.message = message,
             }
         }
-        Ok(Flow::Goes)
+        Ok(After::Goes)
     }
 
     /// What is refused is said; only a difference ends the program.
-    fn perform(&mut self, command: &Command) -> Result<Flow, Failure> {
+    fn perform(&mut self, command: &Command) -> Result<After, Failure> {
+        if let Command::Run { count, .. } = command {
+            if *count > LONGEST_RUN {
+                self.message = format!("a run on the screen takes at most {LONGEST_RUN} steps");
+                return Ok(After::Goes);
+            }
+        }
         match self.session.perform(command) {
             Ok(Done::Said(said)) => self.message = said,
-            Ok(Done::Quit) => return Ok(Flow::Ends),
+            Ok(Done::Quit) => return Ok(After::Ends),
             Err(failure @ Failure::Differ(_)) => return Err(failure),
             Err(failure) => self.message = failure.message().to_string(),
         }
-        Ok(Flow::Goes)
+        // Queues that are emptier take fewer lines.
+        self.scroll_to(self.top);
+        Ok(After::Goes)
     }
 
     fn select(&mut self, chooser: usize) {

@@ -11,7 +11,7 @@ use std::io;
 use super::session::Session;
 use super::terminal::{end_by, Event, Palette, Terminal};
 use crate::failure::Failure;
-use controls::{Flow, Screen};
+use controls::{After, Screen};
 
 pub fn show(session: Session) -> Result<(), Failure> {
     let palette = match std::env::var_os("NO_COLOR") {
@@ -34,10 +34,10 @@ fn until_the_end(session: Session, terminal: &mut Terminal) -> Result<Option<c_i
         terminal.show(screen.frame()).map_err(lost)?;
         match terminal.event().map_err(lost)? {
             Event::Key(key) => match screen.key(key)? {
-                Flow::Goes => {}
-                Flow::DrawsAgain => terminal.forget(),
-                Flow::Stops => terminal.stop().map_err(lost)?,
-                Flow::Ends => return Ok(None),
+                After::Goes => {}
+                After::DrawsAgain => terminal.forget(),
+                After::Stops => terminal.stop().map_err(lost)?,
+                After::Ends => return Ok(None),
             },
             Event::Resized => screen.resize(terminal.size()),
             Event::Closed => return Ok(None),

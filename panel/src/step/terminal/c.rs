@@ -47,7 +47,6 @@ pub const INTERRUPT: c_int = 2;
 pub const QUIT: c_int = 3;
 pub const TERMINATE: c_int = 15;
 pub const CONTINUE: c_int = 18;
-pub const STOP: c_int = 19;
 pub const TERMINAL_STOP: c_int = 20;
 pub const WINDOW_CHANGE: c_int = 28;
 
@@ -61,4 +60,7 @@ extern "C" {
     pub fn sigprocmask(how: c_int, set: *const SignalSet, before: *mut SignalSet) -> c_int;
     pub fn signalfd(file: c_int, set: *const SignalSet, flags: c_uint) -> c_int;
     pub fn raise(signal: c_int) -> c_int;
+    pub fn getppid() -> c_int;
+    pub fn getsid(process: c_int) -> c_int;
+    pub fn getpgid(process: c_int) -> c_int;
 }

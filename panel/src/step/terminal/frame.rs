@@ -8,6 +8,8 @@ pub struct Cell {
     pub style: Style,
 }
 
+const CUT: char = '~';
+
 const BLANK: Cell = Cell {
     character: ' ',
     style: PLAIN,
@@ -37,19 +39,24 @@ impl Frame {
         &self.rows[row]
     }
 
-    /// Puts a line at the beginning of a row, as much of it as there is room for.
+    /// Puts a line at the beginning of a row; one that finds no room is cut, and marked so.
     pub fn put(&mut self, row: usize, line: &[Span]) {
         let Some(cells) = self.rows.get_mut(row) else {
             return;
         };
-        let characters = line
+        let mut characters = line
             .iter()
             .flat_map(|span| span.text.chars().map(|character| (character, span.style)));
-        for (cell, (character, style)) in cells.iter_mut().zip(characters) {
+        for (cell, (character, style)) in cells.iter_mut().zip(&mut characters) {
             *cell = Cell {
                 character: shown(character),
                 style,
             };
+        }
+        if characters.any(|(character, _)| character != ' ') {
+            if let Some(last) = cells.last_mut() {
+                last.character = CUT;
+            }
         }
     }
 }

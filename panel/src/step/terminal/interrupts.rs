@@ -70,15 +70,31 @@ impl Interrupts {
     }
 }
 
+impl Interrupts {
+    /// Stops the program until it is told to go on.
+    pub fn stop(&self) {
+        let mut reading = c::SignalSet::EMPTY;
+        unsafe {
+            c::sigprocmask(c::SET_MASK, &self.before, &mut reading);
+            c::raise(c::TERMINAL_STOP);
+            c::sigprocmask(c::SET_MASK, &reading, std::ptr::null_mut());
+        }
+    }
+}
+
 impl Drop for Interrupts {
     fn drop(&mut self) {
         unsafe { c::sigprocmask(c::SET_MASK, &self.before, std::ptr::null_mut()) };
     }
 }
 
-/// Stops the program until it is told to go on.
-pub fn stop() {
-    unsafe { c::raise(c::STOP) };
+/// Whether there is a shell that could tell a stopped program to go on: a parent in the same session
+/// and in a group of its own.
+pub fn has_shell() -> bool {
+    unsafe {
+        let parent = c::getppid();
+        c::getsid(parent) == c::getsid(0) && c::getpgid(parent) != c::getpgid(0)
+    }
 }
 
 /// Ends the program as the signal would have; it is not blocked any more.

@@ -75,7 +75,9 @@ fn first(bytes: &[u8]) -> First {
         [ESCAPE, b'[', rest @ ..] => sequence(rest),
         [ESCAPE, b'O'] => First::Part,
         [ESCAPE, b'O', letter, ..] => First::Whole(3, arrow(*letter)),
-        [ESCAPE, ..] => First::Whole(1, Some(Key::Escape)),
+        [ESCAPE, ESCAPE, ..] => First::Whole(1, Some(Key::Escape)),
+        // Alt and a key.
+        [ESCAPE, _, ..] => First::Whole(2, None),
         [b'\r' | b'\n', ..] => First::Whole(1, Some(Key::Enter)),
         [0x08 | 0x7f, ..] => First::Whole(1, Some(Key::Backspace)),
         [control @ 0x01..=0x1a, ..] => {
@@ -89,6 +91,13 @@ fn first(bytes: &[u8]) -> First {
 
 /// What follows `ESC [`: digits and other parameters, then one final byte.
 fn sequence(rest: &[u8]) -> First {
+    // A control character is a key of its own, and ends what is no sequence.
+    if let Some(control) = rest.iter().position(|byte| *byte < 0x20) {
+        let is_last = |byte: &u8| matches!(byte, 0x40..=0x7e);
+        if !rest[..control].iter().any(is_last) {
+            return First::Whole(2 + control, None);
+        }
+    }
     let Some(last) = rest.iter().position(|byte| matches!(byte, 0x40..=0x7e)) else {
         return match rest.len() {
             0..LONGEST => First::Part,

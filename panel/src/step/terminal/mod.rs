@@ -87,10 +87,13 @@ impl Terminal {
         self.shown = None;
     }
 
-    /// Leaves the terminal to the shell until the program is told to go on.
+    /// Leaves the terminal to the shell, if there is one, until the program is told to go on.
     pub fn stop(&mut self) -> io::Result<()> {
+        if !interrupts::has_shell() {
+            return Ok(());
+        }
         found::give_back();
-        interrupts::stop();
+        self.interrupts.stop();
         self.forget();
         found::take_over(&self.input, &self.output)
     }

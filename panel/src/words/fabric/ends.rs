@@ -3,6 +3,7 @@
 use reference::Component;
 
 use super::Subject;
+use crate::words::listed;
 
 /// Of more components with an end on one channel only so many are named.
 const MOST_NAMED: usize = 3;
@@ -60,8 +61,5 @@ fn all_named(subject: &Subject, ends: &[usize]) -> String {
     if others > 0 {
         named.push(format!("of {others} more"));
     }
-    match named.split_last() {
-        Some((last, before)) if !before.is_empty() => format!("{} and {last}", before.join(", ")),
-        _ => named.concat(),
-    }
+    listed(&named)
 }

@@ -69,8 +69,25 @@ fn an_escape_alone() {
     assert_eq!(keys.next(), None);
     assert_eq!(keys.end_wait(), None);
     assert_eq!(keys.next(), None);
-    // An escape before another key.
-    keys.push(b"\x1bs");
+    // An escape before another sequence.
+    keys.push(b"\x1b\x1b[A");
     assert_eq!(keys.next(), Some(Key::Escape));
+    assert_eq!(keys.next(), Some(Key::Up));
+}
+
+#[test]
+fn a_control_character_ends_a_sequence() {
+    let mut keys = Keys::default();
+    keys.push(b"\x1b[9\x03\x1b[A\x03");
+    assert_eq!(keys.next(), Some(Key::Control('c')));
+    assert_eq!(keys.next(), Some(Key::Up));
+    assert_eq!(keys.next(), Some(Key::Control('c')));
+}
+
+#[test]
+fn alt_and_a_letter_is_no_key() {
+    let mut keys = Keys::default();
+    keys.push(b"\x1bqs");
     assert_eq!(keys.next(), Some(Key::Character('s')));
+    assert_eq!(keys.next(), None);
 }
