@@ -78,12 +78,12 @@ pub fn byte_sum(bytes: &[u8]) -> u8 {
 
 /// `None` if the six bits at the end are not 0.
 fn read_record(record: &[u8; RECORD]) -> Option<Component> {
-    let (component, end) = read_fields(record);
+    let (component, end) = record_fields(record);
     (end == 0).then_some(component)
 }
 
 /// The component as its record has it, and the six bits at the end.
-pub fn read_fields(record: &[u8; RECORD]) -> (Component, u8) {
+pub fn record_fields(record: &[u8; RECORD]) -> (Component, u8) {
     let mut bytes = [0; 16];
     bytes[16 - RECORD..].copy_from_slice(record);
     let bits = u128::from_be_bytes(bytes);

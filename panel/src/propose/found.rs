@@ -4,7 +4,7 @@ use std::path::Path;
 
 use reference::blocks::{write_blocks, MOST_BLOCKS};
 use reference::netlist::counted;
-use reference::sum_basis::sum_basis;
+use reference::sum_basis::{sum_basis, SumBasis};
 use reference::terms::{write_proposal, Term};
 use reference::{Fabric, Kind};
 
@@ -17,10 +17,10 @@ use crate::words::proposal::of_proposal;
 
 /// Prints all, and writes that with the number, from 1, to proof.bin.
 pub fn propose(folder: &Path, opened: &Opened, number: usize) -> Result<(), Failure> {
-    let basis = sum_basis(&opened.netlist.fabric);
-    let (sums, lines) = accepted(opened, basis.sums)?;
+    let SumBasis { sums, left_out } = sum_basis(&opened.netlist.fabric);
+    let lines = checked_lines(opened, &sums)?;
     if sums.is_empty() {
-        let why = why_none(&opened.netlist.fabric, basis.left_out);
+        let why = why_none(&opened.netlist.fabric, left_out);
         return Err(Failure::Refused(format!("{why}; nothing is written")));
     }
     let terms = sums.get(number - 1).ok_or_else(|| {
@@ -29,17 +29,17 @@ pub fn propose(folder: &Path, opened: &Opened, number: usize) -> Result<(), Fail
     })?;
     print(&(lines + "\n"))?;
     write(folder, number, terms, &sums)?;
-    match basis.left_out {
+    match left_out {
         0 => Ok(()),
         count => print(&format!("left out: {}\n", too_large(count))),
     }
 }
 
-/// The terms of each, and a line for each, as the library accepted them. It accepts all, unless
-/// the equations that they were found by are not its own.
-fn accepted(opened: &Opened, found: Vec<Vec<Term>>) -> Result<(Vec<Vec<Term>>, String), Failure> {
+/// A line for each, as the library accepted it. It accepts all, unless the equations that they were
+/// found by are not its own.
+fn checked_lines(opened: &Opened, sums: &[Vec<Term>]) -> Result<String, Failure> {
     let mut lines = String::new();
-    for terms in &found {
+    for terms in sums {
         let proposal = write_proposal(terms);
         let checked = calls::check(&opened.file, &proposal).map_err(|refused| {
             let words = of_proposal(refused, &proposal, &opened.netlist);
@@ -47,7 +47,7 @@ fn accepted(opened: &Opened, found: Vec<Vec<Term>>) -> Result<(Vec<Vec<Term>>, S
         })?;
         lines += &(checked.equation(&opened.netlist) + "\n");
     }
-    Ok((found, lines))
+    Ok(lines)
 }
 
 /// proof.bin and proofs.bin, which has as many sums as it can have.

@@ -1,5 +1,7 @@
 //! The fields of a component's line: what they say, and what holds where nothing is said.
 
+use std::str::FromStr;
+
 use super::fields::{fields, needed, CAPACITY, COLOUR, EMITS, FILLING, FIRST, MAP, SECOND};
 use super::read::Words;
 use super::wording::{called, port_counts, quoted};
@@ -140,8 +142,7 @@ fn after<'a>(words: &mut Words<'a>, field: &str) -> Result<&'a str, String> {
 /// A byte; whether it is in its range is for the library to say.
 fn read_number(words: &mut Words, field: &str, least: u8) -> Result<u8, String> {
     let word = after(words, field)?;
-    let number = digits(word).and_then(|number| u8::try_from(number).ok());
-    number.ok_or_else(|| no_number(word, field, least, usize::from(MOST_CAPACITY)))
+    digits(word).ok_or_else(|| no_number(word, field, least, usize::from(MOST_CAPACITY)))
 }
 
 pub fn no_number(word: &str, field: &str, least: u8, most: usize) -> String {
@@ -150,7 +151,7 @@ pub fn no_number(word: &str, field: &str, least: u8, most: usize) -> String {
 }
 
 /// A number written in digits alone.
-pub fn digits(word: &str) -> Option<usize> {
+pub fn digits<T: FromStr>(word: &str) -> Option<T> {
     let all = word.bytes().all(|digit| digit.is_ascii_digit());
     word.parse().ok().filter(|_| all)
 }

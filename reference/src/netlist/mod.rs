@@ -16,6 +16,7 @@ mod write;
 
 use crate::fabric::Fabric;
 
+pub use field_values::digits;
 pub use names::{is_name, Names, NAME_RULE};
 pub use read::{read, TextError};
 pub use wording::{counted, padded, quoted};

@@ -1,6 +1,6 @@
 //! The records of a file, read as they stand.
 
-use reference::packed::{colours_in, read_fields, HEADER, RECORD};
+use reference::packed::{colours_in, record_fields, HEADER, RECORD};
 use reference::Fabric;
 
 use super::Subject;
@@ -16,7 +16,7 @@ pub fn fabric_in(file: &[u8]) -> Option<Fabric> {
         channels: usize::from(channels),
         components: records(file)
             .iter()
-            .map(|record| read_fields(record).0)
+            .map(|record| record_fields(record).0)
             .collect(),
     })
 }
@@ -24,7 +24,7 @@ pub fn fabric_in(file: &[u8]) -> Option<Fabric> {
 /// Refusal 6 for the six bits at the end.
 pub fn wrong_end(refused: Refused, subject: &Subject, file: &[u8]) -> Option<String> {
     let place = usize::try_from(refused.place).ok()?;
-    let (_, end) = read_fields(records(file).get(place)?);
+    let (_, end) = record_fields(records(file).get(place)?);
     (refused.number == 6 && end != 0).then(|| {
         let component = subject.component(place);
         format!("{component}: the six bits at the end of its record are {end:06b}, not 0")
