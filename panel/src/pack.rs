@@ -116,12 +116,11 @@ fn names_for(
 }
 
 fn write(file: &Path, packed: &[u8], names: Option<(PathBuf, String)>) -> Result<(), Failure> {
-    files::write(file, packed)?;
-    let Some((path, names)) = names else {
-        return Ok(());
-    };
-    let written = format!("{} is written, but not its names", file.display());
-    files::write(&path, names.as_bytes()).map_err(|failure| failure.at(&written))
+    let mut all = vec![(file, packed)];
+    if let Some((path, text)) = &names {
+        all.push((path, text.as_bytes()));
+    }
+    files::write_all(&all)
 }
 
 /// `fabric.bin: 6 components, 6 channels, 1 colour, 82 bytes`
