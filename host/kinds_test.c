@@ -156,13 +156,22 @@ static void ways(void)
         IS(moved(FABRIC_SWITCH_OUT_B), d == 1 ? FABRIC_SOME(1) : FABRIC_NONE);
         IS(moved(FABRIC_SWITCH_OUT_C), d == 1 ? FABRIC_NONE : FABRIC_SOME(1));
     }
+    /* The queue behind a merge has room for one: what comes second is held, whatever is chosen. */
     between(FABRIC_MERGE, 4);
     first_step(FABRIC_PICK_A);
     IS(moved(FABRIC_MERGE_IN_A), FABRIC_SOME(1));
     IS(moved(FABRIC_MERGE_OUT), FABRIC_SOME(1));
+    IS(state[FABRIC_CELL_HELD], FABRIC_NONE);
+    IS(step(FABRIC_PICK_A), FABRIC_ACCEPTED);
+    IS(moved(FABRIC_MERGE_OUT), FABRIC_NONE);
+    IS(state[FABRIC_CELL_HELD], FABRIC_HELD_B);
     first_step(FABRIC_PICK_B);
     IS(moved(FABRIC_MERGE_IN_B), FABRIC_SOME(2));
     IS(moved(FABRIC_MERGE_OUT), FABRIC_SOME(2));
+    IS(step(FABRIC_PICK_B), FABRIC_ACCEPTED);
+    IS(state[FABRIC_CELL_HELD], FABRIC_HELD_A);
+    state[FABRIC_CELL_HELD] = FABRIC_HELD_B + 1;
+    IS(step(FABRIC_PICK_A), FABRIC_BAD_STATE);
 }
 
 static uint32_t check(uint64_t index, int64_t multiplier)

@@ -5,10 +5,11 @@
  * (in a mask byte colour 0 is the highest bit).
  *
  * A state has 64 bytes a component: of a queue its count, then so many colours, front first; of a source 0 or 1 + the colour it holds;
- * of a sink 0, or 1 if it holds; all other bytes 0. The choices of a step are a byte a component: of a source 0 or 1 + a colour it
- * emits, of a sink and a merge 0 or 1, of others 0. A proposal is at most 4,096 terms of 4 bytes: component 7 bits, index 4,
- * multiplier 21 in two's complement, most significant bit first. A file of many proposals is at most 64 blocks, each a count of terms
- * of 2 bytes, high byte first, and its terms. docs/FORMAT.md has every field, with examples byte by byte.
+ * of a sink 0, or 1 if it holds; of a merge 0, or 1 for A and 2 for B while it holds its pick, which was offered and not taken; all
+ * other bytes 0. The choices of a step are a byte a component: of a source 0 or 1 + a colour it emits, of a sink and a merge 0 or 1,
+ * of others 0. A proposal is at most 4,096 terms of 4 bytes: component 7 bits, index 4, multiplier 21 in two's complement, most
+ * significant bit first. A file of many proposals is at most 64 blocks, each a count of terms of 2 bytes, high byte first, and its
+ * terms. docs/FORMAT.md has every field, with examples byte by byte.
  *
  * Memory. The host lends the memory and keeps it: no call stores a pointer, allocates or frees. A refused call leaves every lent
  * byte as it was; an accepted one leaves the bytes past its result as they were. A pointer whose length is 0 is never read and may
@@ -166,7 +167,7 @@ enum fabric_kind {
 #define FABRIC_MERGE_IN_B FABRIC_PORT_B
 #define FABRIC_MERGE_OUT FABRIC_PORT_C
 
-/* A component's 64 bytes of the state, by offset: a queue's count and the first of its colours; what a source or a sink holds. */
+/* A component's 64 bytes of the state, by offset: a queue's count and the first of its colours; what a source, sink or merge holds. */
 #define FABRIC_CELL_COUNT 0
 #define FABRIC_CELL_FRONT 1
 #define FABRIC_CELL_HELD 0
@@ -175,10 +176,16 @@ enum fabric_kind {
 #define FABRIC_NONE 0
 #define FABRIC_SOME(d) (1 + (d))
 
-/* A sink's choice to take, also what its cell has while it holds; a merge's choice where both inputs are offered. */
+/* A sink's choice to take, also what its cell has while it holds; a merge's choice, which picks where both inputs are offered and
+ * the merge holds neither. */
 #define FABRIC_TAKE 1
 #define FABRIC_PICK_A 0
 #define FABRIC_PICK_B 1
+
+/* What a merge holds: the pick that its output offered in the last step and that was not taken, else FABRIC_NONE. While the held
+ * input is offered it is picked over the choice, so what a merge offers stays until it is taken. */
+#define FABRIC_HELD_A 1
+#define FABRIC_HELD_B 2
 
 /* The index of an equation, of colour d or e below C, by kind; no other index exists, and a sink has none. */
 #define FABRIC_SOURCE_EQUATION(d) (d)         /* only for d that is not emitted: L(A,d) = 0 */
@@ -258,6 +265,7 @@ uint32_t fabric_start(const uint8_t *fabric, size_t fabric_len, uint8_t *state, 
 uint64_t fabric_start_place(const uint8_t *fabric, size_t fabric_len, const uint8_t *state, size_t state_len);
 
 /* Takes one step: the state becomes the state after it, and the moves have a byte a channel, 0 or 1 + the colour that moved.
+ * On every channel a colour that was offered and not taken is offered in the next step too.
  * Refusals in this order: 1 2 3 4 5 6 7 8 21 22 9 10 23. */
 uint32_t fabric_step(const uint8_t *fabric, size_t fabric_len, uint8_t *state, size_t state_len, const uint8_t *choices,
                      size_t choices_len, uint8_t *moves, size_t moves_len);

@@ -390,6 +390,71 @@ no sums yet: 'panel propose' finds them
 }
 
 #[test]
+fn a_stalled_merge_keeps_its_packet() {
+    let netlist = "\
+colours red blue
+source  bells   -> a         emits red
+source  doors   -> b         emits blue
+merge   both    a b -> c
+queue   line    c -> d       capacity 1 filling 1 colour red
+sink    guard   d
+";
+    let folder = of_netlist("stalled", netlist);
+    // The queue is full, so blue waits; then the other input is chosen.
+    let lesson = "step bells=red doors=blue both=b\nchoose both a\n";
+    assert_eq!(
+        last_picture(&played(&folder, lesson)),
+        "\
+./fabric.bin   step 1
+
+no sums yet: 'panel propose' finds them
+
+  queue  count   front first
+  line   1 of 1  red
+
+  chooser  name   last step  next step  holds
+  source   bells  red        red        red
+  source   doors  blue       blue       blue
+  merge    both   b          a          b
+  sink     guard  no         no         no
+
+                         last step             next step
+  channel  from   to     offer  take  moved    offer  take
+  a        bells  both   red    no    -        red    no
+  b        doors  both   blue   no    -        blue   no
+  c        both   line   blue   no    -        blue   no
+  d        line   guard  red    no    -        red    no
+"
+    );
+    // Once there is room blue moves, and nothing is held.
+    let on = "step guard=take both=a\nstep both=a\n";
+    assert_eq!(
+        last_picture(&played(&folder, &format!("{lesson}{on}"))),
+        "\
+./fabric.bin   step 3
+
+no sums yet: 'panel propose' finds them
+
+  queue  count   front first
+  line   1 of 1  blue
+
+  chooser  name   last step  next step  holds
+  source   bells  none       none       red
+  source   doors  none       none       -
+  merge    both   a          a          -
+  sink     guard  no         no         no
+
+                         last step             next step
+  channel  from   to     offer  take  moved    offer  take
+  a        bells  both   red    no    -        red    no
+  b        doors  both   blue   yes   blue     -      no
+  c        both   line   blue   yes   blue     red    no
+  d        line   guard  -      no    -        blue   no
+"
+    );
+}
+
+#[test]
 fn a_seed_names_a_run() {
     let folder = of_netlist("seeds", include_str!("../../panels/uneven.txt"));
     let run = |seed: u64| played(&folder, &format!("run 60 seed {seed}\nsave {seed}.txt\n"));

@@ -70,8 +70,9 @@ pub fn dependences(component: &Component) -> Vec<Dependence> {
             (Take(a), Take(b)),
             (Take(a), Take(c)),
         ],
-        // Merge: if both inputs are offered the choice picks, else the one offered. It offers the
-        // picked colour. An input is taken if picked, offered and the output takes.
+        // Merge: while the held input is offered it is picked; else, if both inputs are offered the
+        // choice picks, else the one offered. It offers the picked colour. An input is taken if
+        // picked, offered and the output takes.
         Kind::Merge => vec![
             (Offer(c), Offer(a)),
             (Offer(c), Offer(b)),

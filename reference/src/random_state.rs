@@ -6,7 +6,7 @@ use crate::fabric::Fabric;
 use crate::random::Random;
 use crate::state::COMPONENT_STATE;
 
-/// Queues are often full or empty, sources and sinks often hold.
+/// Queues are often full or empty; sources, sinks and merges often hold.
 pub fn random_state(random: &mut Random, fabric: &Fabric) -> Vec<u8> {
     let mut bytes = vec![0; COMPONENT_STATE * fabric.components.len()];
     let states = bytes.chunks_mut(COMPONENT_STATE);
@@ -15,8 +15,8 @@ pub fn random_state(random: &mut Random, fabric: &Fabric) -> Vec<u8> {
             let count = random.up_to(usize::from(component.capacity));
             state[0] = count as u8;
             state[1..=count].fill_with(|| random.below(fabric.colours) as u8);
-        } else if component.kind != Kind::Merge && random.percent(50) {
-            state[0] = random.pick(&allowed_besides_0(component));
+        } else if random.percent(50) {
+            state[0] = random.pick(&held_besides_0(component));
         }
     }
     bytes
@@ -37,7 +37,16 @@ pub fn random_choices(random: &mut Random, fabric: &Fabric, steps: usize) -> Vec
     choices
 }
 
-/// The choices other than 0, or 0 alone. What a source or a sink may hold is the same.
+/// What byte 0 may be other than 0, or 0 alone: what a source or a sink may choose is what it may
+/// hold.
+fn held_besides_0(component: &Component) -> Vec<u8> {
+    match component.kind {
+        Kind::Merge => vec![1, 2],
+        _ => allowed_besides_0(component),
+    }
+}
+
+/// The choices other than 0, or 0 alone.
 fn allowed_besides_0(component: &Component) -> Vec<u8> {
     let mut allowed: Vec<u8> = (1..=8)
         .filter(|&byte| is_allowed(component, byte))

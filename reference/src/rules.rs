@@ -1,6 +1,7 @@
 //! The rules: what each kind offers on its outputs and takes on its inputs.
 
 use crate::component::{Component, Kind};
+use crate::merge::{picked, Input};
 use crate::signals::Channel;
 use crate::state::{colour_or_none, content, ComponentState};
 
@@ -59,18 +60,18 @@ pub fn apply_rules(
                 channels[output].take
             });
         }
-        // Merge: if both inputs are offered the choice picks (0 A, 1 B), else the one offered. It
-        // offers the picked colour. An input is taken if picked, offered and the output takes.
+        // Merge: while the held input is offered it is picked over the choice; else, if both inputs
+        // are offered the choice picks (0 A, 1 B), else the one offered. It offers the picked
+        // colour. An input is taken if picked, offered and the output takes.
         Kind::Merge => {
-            let picked = match (channels[a].offer, channels[b].offer) {
-                (Some(_), Some(_)) => Some(if choice == 0 { a } else { b }),
-                (Some(_), None) => Some(a),
-                (None, Some(_)) => Some(b),
-                (None, None) => None,
+            let picked = picked(component, state, choice, channels);
+            channels[c].offer = match picked {
+                Some(Input::A) => channels[a].offer,
+                Some(Input::B) => channels[b].offer,
+                None => None,
             };
-            channels[c].offer = picked.and_then(|input| channels[input].offer);
-            channels[a].take = picked == Some(a) && channels[c].take;
-            channels[b].take = picked == Some(b) && channels[c].take;
+            channels[a].take = picked == Some(Input::A) && channels[c].take;
+            channels[b].take = picked == Some(Input::B) && channels[c].take;
         }
     }
 }

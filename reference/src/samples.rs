@@ -156,6 +156,32 @@ pub fn switch_row(pairs: usize) -> Fabric {
     }
 }
 
+/// A source of colour 0 and sources of colour 1 into merges in a row, and a sink; 63 merges make 128
+/// components and 127 channels. A merge has what comes down the row at A.
+pub fn merge_row(merges: usize) -> Fabric {
+    let one = |x: u8| {
+        let emits_colour_1 = Component {
+            mask: 0x40,
+            ..source(x + 1)
+        };
+        [
+            emits_colour_1,
+            Component::new(Kind::Merge, [x, x + 1, x + 2]),
+        ]
+    };
+    let last = 2 * merges as u8;
+    let components = [source(0)]
+        .into_iter()
+        .chain((0..last).step_by(2).flat_map(one))
+        .chain([sink(last)])
+        .collect();
+    Fabric {
+        colours: 2,
+        channels: 2 * merges + 1,
+        components,
+    }
+}
+
 /// Packets of colour 0 from a queue through stages of a fork whose outputs, one of them through a
 /// queue, are merged again; the last queue has its output on its own input. Each stage doubles what
 /// its packets weigh.

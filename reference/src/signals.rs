@@ -18,6 +18,16 @@ impl Channel {
     pub fn transfer(self) -> Option<u8> {
         self.offer.filter(|_| self.take)
     }
+
+    /// The colour that is offered and not taken.
+    pub fn offer_not_taken(self) -> Option<u8> {
+        self.offer.filter(|_| !self.take)
+    }
+
+    /// Whether it takes and nothing is offered.
+    pub fn take_without_offer(self) -> bool {
+        self.take && self.offer.is_none()
+    }
 }
 
 /// Begins with no offers and no takes, and applies every rule, round after round, until a round

@@ -2,12 +2,13 @@
 
 use crate::component::{Component, Kind, MOST_COLOURS};
 use crate::fabric::Fabric;
+use crate::merge::{held_byte, picked};
 use crate::signals::Channel;
 
 pub const COMPONENT_STATE: usize = 64;
 
 /// Byte 0 is a queue's count, its colours follow front first; 1 + the colour that a source holds;
-/// or 1 while a sink holds. All else is 0.
+/// 1 while a sink holds; or the pick that a merge holds, 1 A, 2 B. All else is 0.
 pub type ComponentState = [u8; COMPONENT_STATE];
 
 /// Start writes fillings and nothing held.
@@ -20,7 +21,8 @@ pub fn lowest_bad_state(fabric: &Fabric, states: &[ComponentState]) -> Option<us
     pairs.position(|(component, state)| !is_good(component, fabric.colours, state))
 }
 
-/// Counts are at most capacity, colours below C and held colours emitted; all else is 0.
+/// Counts are at most capacity, colours below C and held colours emitted, a merge holds A or B; all
+/// else is 0.
 fn is_good(component: &Component, colours: usize, state: &ComponentState) -> bool {
     let [first, rest @ ..] = state;
     let all_0 = |bytes: &[u8]| bytes.iter().all(|&byte| byte == 0);
@@ -32,6 +34,7 @@ fn is_good(component: &Component, colours: usize, state: &ComponentState) -> boo
         }
         Kind::Source => none_or_emitted(component, *first) && all_0(rest),
         Kind::Sink => *first <= 1 && all_0(rest),
+        Kind::Merge => *first <= 2 && all_0(rest),
         _ => all_0(state),
     }
 }
@@ -69,14 +72,19 @@ fn queue_state(colours: &[u8]) -> ComponentState {
     state
 }
 
-/// What the transfers of a step make of a component's state.
-pub fn advance(component: &Component, state: &mut ComponentState, channels: &[Channel]) {
-    let [a, b, _] = component.ports.map(usize::from);
+/// What a step with this choice and these signals makes of a component's state.
+pub fn advance(
+    component: &Component,
+    state: &mut ComponentState,
+    choice: u8,
+    channels: &[Channel],
+) {
+    let [a, b, c] = component.ports.map(usize::from);
     match component.kind {
         // A source holds its colour if it was offered and not taken.
-        Kind::Source => state[0] = byte_of(channels[a].offer.filter(|_| !channels[a].take)),
+        Kind::Source => state[0] = byte_of(channels[a].offer_not_taken()),
         // A sink holds if it took and nothing was offered.
-        Kind::Sink => state[0] = u8::from(channels[a].take && channels[a].offer.is_none()),
+        Kind::Sink => state[0] = u8::from(channels[a].take_without_offer()),
         // A queue drops its front if its output moved, then appends what came in.
         Kind::Queue => {
             let mut colours = content(state).to_vec();
@@ -86,7 +94,13 @@ pub fn advance(component: &Component, state: &mut ComponentState, channels: &[Ch
             colours.extend(channels[a].transfer());
             *state = queue_state(&colours);
         }
+        // A merge whose output was offered and not taken keeps its pick.
+        Kind::Merge => {
+            let stalled = channels[c].offer_not_taken().is_some();
+            let pick = picked(component, state, choice, channels);
+            state[0] = held_byte(pick.filter(|_| stalled));
+        }
         // The others keep no state.
-        _ => {}
+        Kind::Function | Kind::Fork | Kind::Join | Kind::Switch => {}
     }
 }

@@ -87,10 +87,11 @@ fn test_choices(fabric: &Fabric, choices: &[u8]) -> Result<(), Refusal> {
 }
 
 /// All transfers happen together: the signals of all channels come first.
-fn make_step(fabric: &Fabric, states: &mut [ComponentState], choices: &[u8]) -> Vec<Channel> {
+pub fn make_step(fabric: &Fabric, states: &mut [ComponentState], choices: &[u8]) -> Vec<Channel> {
     let channels = signals(fabric, states, choices);
-    for (component, state) in fabric.components.iter().zip(states) {
-        advance(component, state, &channels);
+    let given = states.iter_mut().zip(choices);
+    for (component, (state, &choice)) in fabric.components.iter().zip(given) {
+        advance(component, state, choice, &channels);
     }
     channels
 }

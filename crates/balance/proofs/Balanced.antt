@@ -17,7 +17,7 @@ use Rattle.cells.specs.Counts.{counts}
 use Rattle.cells.proofs.Cells.{colours-of-cell}
 use Rattle.cells.proofs.Good.{cell-long, source-held}
 use Rattle.cells.proofs.Choices.{source-choice}
-use Rattle.rules.specs.Rules.{when, offered, orElse, rule}
+use Rattle.rules.specs.Rules.{when, offered, orElse, picksB, rule}
 use Rattle.signals.specs.Signals.{componentAt, near, value, moved}
 use Rattle.state.specs.Step.{cellNext, appended, dropped, nextAt, next, CanStep}
 use Rattle.state.proofs.Transfers.{out-moves, in-moves}
@@ -127,7 +127,7 @@ module _ (f : Netlist) (ends order state choices : List ℕ) (s : CanStep f ends
     rw (through-port join e A, through-port join e B) (join-both (near row v offerA) (near row v offerB) (near row v takeC)),
   )
   by-kind switch e = rw (through-port switch e A, through-port switch e B, through-port switch e C) (switch-both row (near row v offerA) (near row v takeB) (near row v takeC))
-  by-kind merge e = rw (through-port merge e A, through-port merge e B, through-port merge e C) (merge-one (getD choices k 0) (near row v offerA) (near row v offerB) (near row v takeC))
+  by-kind merge e = rw (through-port merge e A, through-port merge e B, through-port merge e C) (merge-one (picksB (getD (cell state k) 0 0) (getD choices k 0) (near row v offerA) (near row v offerB)) (near row v offerA) (near row v offerB) (near row v takeC))
 
   pub balanced : Balanced (kind (rowOf f k)) (rowOf f k) (moved f state choices) (counts state k) (counts (next f state choices) k)
   balanced = by-kind (kind row) refl

@@ -5,11 +5,8 @@ use mathlib.Core.Bool.{Bool, true, false}
 use mathlib.Core.List.{List}
 use Prim.Native.Nat.{ℕ, zero, suc}
 use Rattle.component.specs.Row.{masked}
-use Rattle.rules.specs.Rules.{when, unless, offered, mapped, either, picksB, toB}
-
-when-none : (g : ℕ) → when g 0 ≡ 0
-when-none zero = refl
-when-none (suc g) = refl
+use Rattle.rules.specs.Rules.{when, unless, offered, mapped, either, toB}
+use Rattle.rules.proofs.Values.{when-none}
 
 -- a map, behind one gate, behind two, behind the two in the other order
 pub mapped-one : (m : ℕ → ℕ) (g o : ℕ) → when g (mapped m o) ≡ mapped m (when g o)
@@ -50,12 +47,14 @@ switch-both r (suc d) gb gc = go (masked r d) refl gb gc
     go false e gb zero = (rw e (when-none gb), rw e)
     go false e gb (suc gc) = (rw (e, e) (when-none gb), rw (e, e))
 
--- a merge moves the one input that it picks
-pub merge-one : (choice a b g : ℕ) →
-    ((when g (either (picksB choice a b) a b) ≡ when (unless (picksB choice a b) (when (offered a) g)) a) × (when (when (picksB choice a b) (when (offered b) g)) b ≡ 0)) ⊎
-    ((when g (either (picksB choice a b) a b) ≡ when (when (picksB choice a b) (when (offered b) g)) b) × (when (unless (picksB choice a b) (when (offered a) g)) a ≡ 0))
-merge-one choice zero zero g = inr (when-none g, refl)
-merge-one choice zero (suc b) g = inr (refl, refl)
-merge-one choice (suc a) zero g = inl (refl, refl)
-merge-one zero (suc a) (suc b) g = inl (refl, refl)
-merge-one (suc choice) (suc a) (suc b) g = inr (refl, refl)
+-- a merge moves the one input that it picks, where p is 1 if that is B
+abbrev Merged : ℕ → ℕ → ℕ → ℕ → Type 0
+Merged p a b g =
+    ((when g (either p a b) ≡ when (unless p (when (offered a) g)) a) × (when (when p (when (offered b) g)) b ≡ 0)) ⊎
+    ((when g (either p a b) ≡ when (when p (when (offered b) g)) b) × (when (unless p (when (offered a) g)) a ≡ 0))
+
+pub merge-one : (p a b g : ℕ) → Merged p a b g
+merge-one zero zero b g = inl (when-none g, refl)
+merge-one zero (suc a) b g = inl (refl, refl)
+merge-one (suc p) a zero g = inr (when-none g, refl)
+merge-one (suc p) a (suc b) g = inr (refl, refl)

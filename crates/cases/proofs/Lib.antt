@@ -1,5 +1,6 @@
 pub mod CreditLoop
 pub mod Starred
+pub mod HeldMerges
 pub mod EightKinds
 pub mod Ceilings
 pub mod Hypotheses

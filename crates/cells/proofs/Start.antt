@@ -40,7 +40,8 @@ module _ (f : Netlist) (ends order : List ℕ) (a : AcceptedFabric f ends order)
     zeros-good fork j = refl
     zeros-good join j = refl
     zeros-good switch j = refl
-    zeros-good merge j = refl
+    zeros-good merge zero = refl
+    zeros-good merge (suc j) = refl
 
     plain : (d : Kind) (j : ℕ) → goodByte d (rowOf f k) (f .colours) (getD (replicate cellSize 0) 0 0) j (getD (replicate cellSize 0) j 0) ≡ true
     plain d j = rw (zero-at cellSize j) (zeros-good d j)

@@ -27,12 +27,14 @@ goodByte source row c n (suc j) b = eqb b 0
 -- Sink: byte 0 is 1 while held.
 goodByte sink row c n zero b = ltb b 2
 goodByte sink row c n (suc j) b = eqb b 0
+-- Merge: byte 0 is 1 for A, 2 for B while its pick is held.
+goodByte merge row c n zero b = ltb b 3
+goodByte merge row c n (suc j) b = eqb b 0
 -- All else is 0.
 goodByte function row c n j b = eqb b 0
 goodByte fork row c n j b = eqb b 0
 goodByte join row c n j b = eqb b 0
 goodByte switch row c n j b = eqb b 0
-goodByte merge row c n j b = eqb b 0
 
 -- every number below n passes
 unfoldable pub all : ℕ → (ℕ → Bool) → Bool

@@ -4,3 +4,4 @@ pub mod ReadBack
 pub mod Demands
 pub mod Ceiling
 pub mod Many
+pub mod Persistent

@@ -1,3 +1,4 @@
 pub mod Demands
 pub mod Ceiling
 pub mod Many
+pub mod Persistent

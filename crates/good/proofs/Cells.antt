@@ -12,17 +12,21 @@ use borrow.Author.Tests.{lt-ltb, le-ltb}
 use Rattle.digits.proofs.Bools.{and-true}
 use Rattle.component.specs.Kind.{kindOf}
 use Rattle.component.specs.Row.{kind, masked}
-use Rattle.component.proofs.ByKind.{later-kind, no-queue}
+use Rattle.component.proofs.ByKind.{middle-kind, last-kind, no-queue}
 use Rattle.cells.specs.Good.{emitted, goodByte, all, goodCell}
 
 pub emitted-at : (r : List ℕ) (b : ℕ) → (b ≡ 0 → ⊥) → emitted r b ≡ (ltb (b - 1) 8 && masked r (b - 1))
 emitted-at r zero h = absurd (h refl)
 emitted-at r (suc d) h = let e : suc d - 1 ≡ d = omega arith in rw e
 
--- every other kind
-pub first-rest : (k : ℕ) (r : List ℕ) (c n b : ℕ) → (k ≡ 0 → ⊥) → (k ≡ 1 → ⊥) → (k ≡ 2 → ⊥) → eqb b 0 ≡ goodByte (kindOf k) r c n 0 b
+-- function, fork, join and switch; merge
+pub first-rest : (k : ℕ) (r : List ℕ) (c n b : ℕ) → (k ≡ 0 → ⊥) → (k ≡ 1 → ⊥) → (k ≡ 2 → ⊥) → k < 7 → eqb b 0 ≡ goodByte (kindOf k) r c n 0 b
 unfolding goodByte
-first-rest k r c n b = later-kind (λ d. eqb b 0 ≡ goodByte d r c n 0 b) refl refl refl refl refl k
+first-rest k r c n b = middle-kind (λ d. eqb b 0 ≡ goodByte d r c n 0 b) refl refl refl refl k
+
+pub first-merge : (k : ℕ) (r : List ℕ) (c n b : ℕ) → 7 ≤ k → ltb b 3 ≡ goodByte (kindOf k) r c n 0 b
+unfolding goodByte
+first-merge k r c n b l = rw (last-kind k l)
 
 later-rest : (k : ℕ) (r : List ℕ) (c n j b : ℕ) → (k ≡ 2 → ⊥) → eqb b 0 ≡ goodByte (kindOf k) r c n (suc j) b
 unfolding goodByte

@@ -46,7 +46,8 @@ fn first_good(table: &[u8], k: usize, b: u8) -> bool
         0 => is_emitted(table, k, b),
         1 => b < 2,
         2 => b <= most,
-        _ => b == 0,
+        3..=6 => b == 0,
+        _ => b < 3,
     }
 }
 

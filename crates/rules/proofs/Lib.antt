@@ -1,4 +1,5 @@
 pub mod Values
+pub mod Merges
 pub mod Ports
 pub mod Rules
 pub mod Seen

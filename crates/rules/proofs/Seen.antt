@@ -15,81 +15,81 @@ use Rattle.rules.specs.Rules.{bit, when, offered, orElse, mapped, compon
 use Rattle.rules.specs.Seen.{seen, ruleNumbered, useOf, Offers, Takes}
 
 -- r is what the rule of number n gives
-pub record Ruled (row cell : List ℕ) (pick oa ob tb tc n r : ℕ) : Type 0 where
-  pub is : r ≡ ruleNumbered n (componentWith row cell pick) (seen oa ob tb tc)
+pub record Ruled (row cell : List ℕ) (choice oa ob tb tc n r : ℕ) : Type 0 where
+  pub is : r ≡ ruleNumbered n (componentWith row cell choice) (seen oa ob tb tc)
 
-module _ {row cell : List ℕ} {pick oa ob tb tc r : ℕ} where
-  pub source-a : r ≡ orElse (getD cell 0 0) pick → Ruled row cell pick oa ob tb tc 0 r
+module _ {row cell : List ℕ} {choice oa ob tb tc r : ℕ} where
+  pub source-a : r ≡ orElse (getD cell 0 0) choice → Ruled row cell choice oa ob tb tc 0 r
   unfolding rule kindOf portOf portUse
   source-a q = record { is = q }
 
-  pub sink-a : r ≡ offered (orElse (getD cell 0 0) pick) → Ruled row cell pick oa ob tb tc 3 r
+  pub sink-a : r ≡ offered (orElse (getD cell 0 0) choice) → Ruled row cell choice oa ob tb tc 3 r
   unfolding rule kindOf portOf portUse
   sink-a q = record { is = q }
 
-  pub queue-a : r ≡ bit (ltb (getD cell 0 0) (capacity row)) → Ruled row cell pick oa ob tb tc 6 r
+  pub queue-a : r ≡ bit (ltb (getD cell 0 0) (capacity row)) → Ruled row cell choice oa ob tb tc 6 r
   unfolding rule kindOf portOf portUse
   queue-a q = record { is = q }
 
-  pub queue-b : r ≡ when (getD cell 0 0) (suc (getD cell 1 0)) → Ruled row cell pick oa ob tb tc 7 r
+  pub queue-b : r ≡ when (getD cell 0 0) (suc (getD cell 1 0)) → Ruled row cell choice oa ob tb tc 7 r
   unfolding rule kindOf portOf portUse
   queue-b q = record { is = q }
 
-  pub function-a : r ≡ tb → Ruled row cell pick oa ob tb tc 9 r
+  pub function-a : r ≡ tb → Ruled row cell choice oa ob tb tc 9 r
   unfolding rule kindOf portOf portUse
   function-a q = record { is = q }
 
-  pub function-b : r ≡ mapped (mapOf false row) oa → Ruled row cell pick oa ob tb tc 10 r
+  pub function-b : r ≡ mapped (mapOf false row) oa → Ruled row cell choice oa ob tb tc 10 r
   unfolding rule kindOf portOf portUse
   function-b q = record { is = q }
 
-  pub fork-a : r ≡ when tb tc → Ruled row cell pick oa ob tb tc 12 r
+  pub fork-a : r ≡ when tb tc → Ruled row cell choice oa ob tb tc 12 r
   unfolding rule kindOf portOf portUse
   fork-a q = record { is = q }
 
-  pub fork-b : ((s : List ℕ) (p o : ℕ) → Offers fork 1 (componentWith row s p) (seen oa o tb tc) r) → Ruled row cell pick oa ob tb tc 13 r
+  pub fork-b : ((s : List ℕ) (p o : ℕ) → Offers fork 1 (componentWith row s p) (seen oa o tb tc) r) → Ruled row cell choice oa ob tb tc 13 r
   unfolding kindOf portOf portUse
-  fork-b q = record { is = q cell pick ob refl }
+  fork-b q = record { is = q cell choice ob refl }
 
-  pub fork-c : ((s : List ℕ) (p o : ℕ) → Offers fork 2 (componentWith row s p) (seen oa o tb tc) r) → Ruled row cell pick oa ob tb tc 14 r
+  pub fork-c : ((s : List ℕ) (p o : ℕ) → Offers fork 2 (componentWith row s p) (seen oa o tb tc) r) → Ruled row cell choice oa ob tb tc 14 r
   unfolding kindOf portOf portUse
-  fork-c q = record { is = q cell pick ob refl }
+  fork-c q = record { is = q cell choice ob refl }
 
-  pub join-a : ((w s : List ℕ) (p t : ℕ) → Takes join 0 (componentWith w s p) (seen oa ob t tc) r) → Ruled row cell pick oa ob tb tc 15 r
+  pub join-a : ((w s : List ℕ) (p t : ℕ) → Takes join 0 (componentWith w s p) (seen oa ob t tc) r) → Ruled row cell choice oa ob tb tc 15 r
   unfolding kindOf portOf portUse
-  join-a q = record { is = q row cell pick tb refl }
+  join-a q = record { is = q row cell choice tb refl }
 
-  pub join-b : ((w s : List ℕ) (p t : ℕ) → Takes join 1 (componentWith w s p) (seen oa ob t tc) r) → Ruled row cell pick oa ob tb tc 16 r
+  pub join-b : ((w s : List ℕ) (p t : ℕ) → Takes join 1 (componentWith w s p) (seen oa ob t tc) r) → Ruled row cell choice oa ob tb tc 16 r
   unfolding kindOf portOf portUse
-  join-b q = record { is = q row cell pick tb refl }
+  join-b q = record { is = q row cell choice tb refl }
 
-  pub join-c : ((s : List ℕ) (p t u : ℕ) → r ≡ rule join (portOf 2) (componentWith row s p) (seen oa ob t u)) → Ruled row cell pick oa ob tb tc 17 r
+  pub join-c : ((s : List ℕ) (p t u : ℕ) → r ≡ rule join (portOf 2) (componentWith row s p) (seen oa ob t u)) → Ruled row cell choice oa ob tb tc 17 r
   unfolding kindOf portOf portUse
-  join-c q = record { is = q cell pick tb tc }
+  join-c q = record { is = q cell choice tb tc }
 
-  pub switch-a : ((s : List ℕ) (p o : ℕ) → r ≡ rule switch (portOf 0) (componentWith row s p) (seen oa o tb tc)) → Ruled row cell pick oa ob tb tc 18 r
+  pub switch-a : ((s : List ℕ) (p o : ℕ) → r ≡ rule switch (portOf 0) (componentWith row s p) (seen oa o tb tc)) → Ruled row cell choice oa ob tb tc 18 r
   unfolding kindOf portOf portUse
-  switch-a q = record { is = q cell pick ob }
+  switch-a q = record { is = q cell choice ob }
 
-  pub switch-b : ((s : List ℕ) (p o t u : ℕ) → Offers switch 1 (componentWith row s p) (seen oa o t u) r) → Ruled row cell pick oa ob tb tc 19 r
+  pub switch-b : ((s : List ℕ) (p o t u : ℕ) → Offers switch 1 (componentWith row s p) (seen oa o t u) r) → Ruled row cell choice oa ob tb tc 19 r
   unfolding kindOf portOf portUse
-  switch-b q = record { is = q cell pick ob tb tc refl }
+  switch-b q = record { is = q cell choice ob tb tc refl }
 
-  pub switch-c : ((s : List ℕ) (p o t u : ℕ) → Offers switch 2 (componentWith row s p) (seen oa o t u) r) → Ruled row cell pick oa ob tb tc 20 r
+  pub switch-c : ((s : List ℕ) (p o t u : ℕ) → Offers switch 2 (componentWith row s p) (seen oa o t u) r) → Ruled row cell choice oa ob tb tc 20 r
   unfolding kindOf portOf portUse
-  switch-c q = record { is = q cell pick ob tb tc refl }
+  switch-c q = record { is = q cell choice ob tb tc refl }
 
-  pub merge-a : ((w s : List ℕ) (t : ℕ) → Takes merge 0 (componentWith w s pick) (seen oa ob t tc) r) → Ruled row cell pick oa ob tb tc 21 r
+  pub merge-a : ((w : List ℕ) (t : ℕ) → Takes merge 0 (componentWith w cell choice) (seen oa ob t tc) r) → Ruled row cell choice oa ob tb tc 21 r
   unfolding kindOf portOf portUse
-  merge-a q = record { is = q row cell tb refl }
+  merge-a q = record { is = q row tb refl }
 
-  pub merge-b : ((w s : List ℕ) (t : ℕ) → Takes merge 1 (componentWith w s pick) (seen oa ob t tc) r) → Ruled row cell pick oa ob tb tc 22 r
+  pub merge-b : ((w : List ℕ) (t : ℕ) → Takes merge 1 (componentWith w cell choice) (seen oa ob t tc) r) → Ruled row cell choice oa ob tb tc 22 r
   unfolding kindOf portOf portUse
-  merge-b q = record { is = q row cell tb refl }
+  merge-b q = record { is = q row tb refl }
 
-  pub merge-c : ((w s : List ℕ) (t u : ℕ) → r ≡ rule merge (portOf 2) (componentWith w s pick) (seen oa ob t u)) → Ruled row cell pick oa ob tb tc 23 r
+  pub merge-c : ((w : List ℕ) (t u : ℕ) → r ≡ rule merge (portOf 2) (componentWith w cell choice) (seen oa ob t u)) → Ruled row cell choice oa ob tb tc 23 r
   unfolding kindOf portOf portUse
-  merge-c q = record { is = q row cell tb tc }
+  merge-c q = record { is = q row tb tc }
 
 -- the last arm of a `match` on a rule's number
 abbrev arms : List ℕ

@@ -13,6 +13,14 @@ pub when-open : (n v : ℕ) → (n ≡ 0 → ⊥) → v ≡ when n v
 when-open zero v h = absurd (h refl)
 when-open (suc n) v h = refl
 
+pub when-none : (g : ℕ) → when g 0 ≡ 0
+when-none zero = refl
+when-none (suc g) = refl
+
+pub unless-none : (g : ℕ) → unless g 0 ≡ 0
+unless-none zero = refl
+unless-none (suc g) = refl
+
 pub bit-nonzero : (n : ℕ) → bit (not (eqb n 0)) ≡ offered n
 bit-nonzero zero = refl
 bit-nonzero (suc n) = ap (λ (b : Bool). bit (not b)) (eqb·suc-zero n)

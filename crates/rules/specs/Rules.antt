@@ -55,11 +55,17 @@ abbrev pub toB : List ℕ → ℕ → ℕ
 toB row zero = 0
 toB row (suc d) = bit (masked row d)
 
--- 1 if a merge picks B, 0 if A: if both inputs are offered the choice picks (0 A, 1 B), else the one offered
-abbrev pub picksB : ℕ → ℕ → ℕ → ℕ
-picksB choice zero b = 1
-picksB choice (suc a) zero = 0
-picksB choice (suc a) (suc b) = offered choice
+-- 1 for B, 0 for A: if both inputs are offered the choice picks (0 A, 1 B), else the one offered
+abbrev pub chosenB : ℕ → ℕ → ℕ → ℕ
+chosenB choice zero b = 1
+chosenB choice (suc a) zero = 0
+chosenB choice (suc a) (suc b) = offered choice
+
+-- 1 if a merge picks B, 0 if A: while the held input (1 A, 2 B) is offered it is picked over the choice
+unfoldable pub picksB : ℕ → ℕ → ℕ → ℕ → ℕ
+picksB zero choice a b = chosenB choice a b
+picksB (suc zero) choice a b = either a (chosenB choice a b) 0
+picksB (suc (suc h)) choice a b = either b (chosenB choice a b) 1
 
 -- a component in a state under a choice: its row of the table, its 64 bytes, its choice byte
 pub record Component : Type 0 where
@@ -70,7 +76,7 @@ pub record Component : Type 0 where
 abbrev pub componentWith : List ℕ → List ℕ → ℕ → Component
 componentWith r s c = record { row = r; cell = s; choice = c }
 
--- byte 0: what a source or a sink holds, or a queue's count; then a queue's colours, front first
+-- byte 0: what a source, a sink or a merge holds, or a queue's count; then a queue's colours, front first
 abbrev pub held : Component → ℕ
 held c = getD (c .cell) 0 0
 
@@ -113,8 +119,8 @@ rule join C c v = when (offered (v offerB)) (mapped (firstMap (c .row)) (v offer
 rule switch A c v = when (offered (v offerA)) (either (toB (c .row) (v offerA)) (v takeC) (v takeB))
 rule switch B c v = when (toB (c .row) (v offerA)) (v offerA)
 rule switch C c v = unless (toB (c .row) (v offerA)) (v offerA)
--- Merge: if both inputs are offered the choice picks (0 A, 1 B), else the one offered. It offers the picked colour. An input is taken
--- if picked, offered and the output takes.
-rule merge A c v = unless (picksB (c .choice) (v offerA) (v offerB)) (when (offered (v offerA)) (v takeC))
-rule merge B c v = when (picksB (c .choice) (v offerA) (v offerB)) (when (offered (v offerB)) (v takeC))
-rule merge C c v = either (picksB (c .choice) (v offerA) (v offerB)) (v offerA) (v offerB)
+-- Merge: while the held input is offered it is picked over the choice; else, if both inputs are offered the choice picks (0 A, 1 B),
+-- else the one offered. It offers the picked colour. An input is taken if picked, offered and the output takes.
+rule merge A c v = unless (picksB (held c) (c .choice) (v offerA) (v offerB)) (when (offered (v offerA)) (v takeC))
+rule merge B c v = when (picksB (held c) (c .choice) (v offerA) (v offerB)) (when (offered (v offerB)) (v takeC))
+rule merge C c v = either (picksB (held c) (c .choice) (v offerA) (v offerB)) (v offerA) (v offerB)

@@ -85,6 +85,48 @@ impl HeldSink {
     }
 }
 
+// What a merge holds over a step: its pick, 1 for A and 2 for B, or 0 for none.
+pub struct HeldMerge {
+    pub held: u8,
+}
+
+impl HeldMerge {
+    // Its pick, true for B: while the held input is offered it is picked over the choice; else, if both inputs are offered the choice
+    // picks, else the one offered.
+    pub fn picks_b(self, choice: u8, a: Offer, b: Offer) -> bool
+        ensures { λ r. ⌜ bit r ≡ picksB (self .held) choice (offerNumber a) (offerNumber b) ⌝ }
+    {
+        let held = self.held;
+        match a {
+            Offer::Colour(_) => match b {
+                Offer::Colour(_) => (1 < held) | (held == 0) & (choice != 0),
+                Offer::Nothing => false,
+            },
+            Offer::Nothing => true,
+        }
+    }
+
+    // It keeps its pick if its output was offered and not taken.
+    pub fn next(self, choice: u8, a: Offer, b: Offer, output: Channel) -> HeldMerge
+        ensures { λ r. ⌜ r .held ≡ unless (bit (output .take)) (when (offerNumber (output .offer)) (suc (picksB (self .held) choice (offerNumber a) (offerNumber b)))) ⌝ }
+    {
+        let o = output.offer;
+        if output.take {
+            return HeldMerge { held: 0 };
+        }
+        match o {
+            Offer::Nothing => HeldMerge { held: 0 },
+            Offer::Colour(_) => {
+                let g = self.picks_b(choice, a, b);
+                if g {
+                    return HeldMerge { held: 2 };
+                }
+                HeldMerge { held: 1 }
+            }
+        }
+    }
+}
+
 // The offer that a byte of the state or of the choices says.
 pub fn offer_of_byte(n: u8) -> Offer
     ensures { λ r. ⌜ offerNumber r ≡ n ⌝ }
@@ -171,39 +213,36 @@ fn to_b(table: &[u8], k: usize, o: Offer) -> bool
     }
 }
 
-// A merge's pick: true for B.
-fn picks_b(pick: u8, a: Offer, b: Offer) -> bool
-    ensures { λ r. ⌜ bit r ≡ picksB pick (offerNumber a) (offerNumber b) ⌝ }
+// A merge's pick, true for B, from its bytes.
+fn picks_b(cell: &[u8], choice: u8, a: Offer, b: Offer) -> bool
+    requires { ⌜ length (now cell) ≡ cellSize ⌝ }
+    ensures { λ r. ⌜ bit r ≡ picksB (getD (now (cell .entry)) 0 0) choice (offerNumber a) (offerNumber b) ⌝ }
 {
-    match a {
-        Offer::Colour(_) => match b {
-            Offer::Colour(_) => pick != 0,
-            Offer::Nothing => false,
-        },
-        Offer::Nothing => true,
-    }
+    let n = cell[0];
+    let m = HeldMerge { held: n };
+    m.picks_b(choice, a, b)
 }
 
 // Source: its held colour if it has one, else its choice.
-pub fn source_offer(cell: &[u8], pick: u8) -> Offer
+pub fn source_offer(cell: &[u8], choice: u8) -> Offer
     requires { ⌜ length (now cell) ≡ cellSize ⌝ }
-    ensures { λ r. ⌜ offerNumber r ≡ orElse (getD (now (cell .entry)) 0 0) pick ⌝ }
+    ensures { λ r. ⌜ offerNumber r ≡ orElse (getD (now (cell .entry)) 0 0) choice ⌝ }
 {
     let n = cell[0];
     let h = offer_of_byte(n);
-    let p = offer_of_byte(pick);
+    let p = offer_of_byte(choice);
     let s = HeldSource { held: h };
     s.offer(p)
 }
 
 // Sink takes if held or chosen.
-pub fn sink_take(cell: &[u8], pick: u8) -> bool
+pub fn sink_take(cell: &[u8], choice: u8) -> bool
     requires { ⌜ length (now cell) ≡ cellSize ⌝ }
-    ensures { λ r. ⌜ bit r ≡ offered (orElse (getD (now (cell .entry)) 0 0) pick) ⌝ }
+    ensures { λ r. ⌜ bit r ≡ offered (orElse (getD (now (cell .entry)) 0 0) choice) ⌝ }
 {
     let n = cell[0];
     let s = HeldSink { held: n != 0 };
-    s.take(pick != 0)
+    s.take(choice != 0)
 }
 
 // Queue: offers its front colour if not empty.
@@ -298,10 +337,11 @@ pub fn switch_take(table: &[u8], k: usize, a: Offer, bt: bool, ct: bool) -> bool
 }
 
 // Merge: it offers the picked colour.
-pub fn merge_offer(pick: u8, a: Offer, b: Offer) -> Offer
-    ensures { λ r. ⌜ ((w s : List ℕ) (tb tc : ℕ) → offerNumber r ≡ rule merge (portOf 2) (componentWith w s pick) (seen (offerNumber a) (offerNumber b) tb tc)) ⌝ }
+pub fn merge_offer(cell: &[u8], choice: u8, a: Offer, b: Offer) -> Offer
+    requires { ⌜ length (now cell) ≡ cellSize ⌝ }
+    ensures { λ r. ⌜ ((w : List ℕ) (tb tc : ℕ) → offerNumber r ≡ rule merge (portOf 2) (componentWith w (now (cell .entry)) choice) (seen (offerNumber a) (offerNumber b) tb tc)) ⌝ }
 {
-    let g = picks_b(pick, a, b);
+    let g = picks_b(cell, choice, a, b);
     if g {
         return b;
     }
@@ -309,10 +349,11 @@ pub fn merge_offer(pick: u8, a: Offer, b: Offer) -> Offer
 }
 
 // Merge: an input is taken if picked, offered and the output takes.
-pub fn merge_take(pick: u8, port: usize, a: Offer, b: Offer, ct: bool) -> bool
-    ensures { λ r. ⌜ ((w s : List ℕ) (tb : ℕ) → Takes merge port (componentWith w s pick) (seen (offerNumber a) (offerNumber b) tb (bit ct)) (bit r)) ⌝ }
+pub fn merge_take(cell: &[u8], choice: u8, port: usize, a: Offer, b: Offer, ct: bool) -> bool
+    requires { ⌜ length (now cell) ≡ cellSize ⌝ }
+    ensures { λ r. ⌜ ((w : List ℕ) (tb : ℕ) → Takes merge port (componentWith w (now (cell .entry)) choice) (seen (offerNumber a) (offerNumber b) tb (bit ct)) (bit r)) ⌝ }
 {
-    let g = picks_b(pick, a, b);
+    let g = picks_b(cell, choice, a, b);
     match port {
         0 => {
             let o = is_offered(a);

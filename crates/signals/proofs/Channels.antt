@@ -31,14 +31,14 @@ times-fits o t h k = rw (times-flag o t k) (omega (arith, when-le t o 255 (omega
 pub taken : {signals : List ℕ} {x t : ℕ} → There signals x → t ≡ offered (getD signals (2 * x + 1) 0) → t ≡ getD signals (2 * x + 1) 0
 taken h e = e ∙ flag-is _ (h .flag)
 
-module _ {n : ℕ} {signals table cell : List ℕ} {k pick a b c : ℕ} (u : Readable n signals table k cell pick a b c) {m : ℕ} (q : n ≡ m) {oa ob tb tc : ℕ}
+module _ {n : ℕ} {signals table cell : List ℕ} {k choice a b c : ℕ} (u : Readable n signals table k cell choice a b c) {m : ℕ} (q : n ≡ m) {oa ob tb tc : ℕ}
     (ea : oa ≡ getD signals (2 * a) 0) (eb : ob ≡ getD signals (2 * b) 0) (ec : tb ≡ getD signals (2 * b + 1) 0) (ed : tc ≡ getD signals (2 * c + 1) 0) where
   -- what a rule gives, a take as it is
-  pub takes : {r t : ℕ} → r ≡ t → Ruled (row table k) cell pick oa ob tb tc m t → r ≡ ruleNumbered n (componentWith (row table k) cell pick) (seenAt signals a b c)
+  pub takes : {r t : ℕ} → r ≡ t → Ruled (row table k) cell choice oa ob tb tc m t → r ≡ ruleNumbered n (componentWith (row table k) cell choice) (seenAt signals a b c)
   takes w e = w ∙ rw (q, ← ea, ← eb, ← ec, ← ed) (e .is)
 
   -- an offer if it fits a byte
-  pub offers : {r o : ℕ} → (o ≤ 255 → r ≡ o) → Ruled (row table k) cell pick oa ob tb tc m o → r ≡ ruleNumbered n (componentWith (row table k) cell pick) (seenAt signals a b c)
+  pub offers : {r o : ℕ} → (o ≤ 255 → r ≡ o) → Ruled (row table k) cell choice oa ob tb tc m o → r ≡ ruleNumbered n (componentWith (row table k) cell choice) (seenAt signals a b c)
   offers {r} {o} w e =
       let is = takes {r = o} refl e in
       w (omega (arith, is, u .small)) ∙ is

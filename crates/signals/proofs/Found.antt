@@ -208,7 +208,7 @@ module _ {f : Netlist} {order : List ℕ} {i n s k pa pb pc : ℕ} (l : Place f 
       turn v w = record {
         few = omega arith;
         long = simp length-set (o .long);
-        found = λ j b. pick j b (ℕ-discrete j i);
+        found = λ j b. choice j b (ℕ-discrete j i);
         flags = λ x b. flag x b (ℕ-discrete (2 * x + 1) s);
         rest = drop-set-lt (2 * f .channels) now s v signal-below ∙ o .rest;
       }
@@ -216,9 +216,9 @@ module _ {f : Netlist} {order : List ℕ} {i n s k pa pb pc : ℕ} (l : Place f 
           inside : s < length now
           inside = omega (arith, signal-below, o .long)
 
-          pick : (j : ℕ) → j < i + 1 → Dec (j ≡ i) → getD (set now s v) (getD order j 0) 0 ≡ value f state choices (getD order j 0)
-          pick j b (yes q) = rw (q, ← signal-is) (getD-set-same now s v 0 inside) ∙ w ∙ value-is ∙ rw q
-          pick j b (no q) =
+          choice : (j : ℕ) → j < i + 1 → Dec (j ≡ i) → getD (set now s v) (getD order j 0) 0 ≡ value f state choices (getD order j 0)
+          choice j b (yes q) = rw (q, ← signal-is) (getD-set-same now s v 0 inside) ∙ w ∙ value-is ∙ rw q
+          choice j b (no q) =
               getD-set-other now s (getD order j 0) v 0 (λ u. q (a .wires .sorted .once j i (omega arith) h (u ∙ signal-is))) ∙ o .found j (omega arith)
 
           flag : (x : ℕ) → x < f .channels → Dec (2 * x + 1 ≡ s) → getD (set now s v) (2 * x + 1) 0 ≤ 1

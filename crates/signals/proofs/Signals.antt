@@ -1,22 +1,29 @@
 -- All rules hold of the values, and of no others; any order that follows the dependences gives them. Assumes nothing.
-use mathlib.Core.Path.{_≡_, refl, _∙_}
-use mathlib.Core.Bool.{Bool, true, _&&_}
+use mathlib.Core.Path.{_≡_, refl, subst, _∙_}
+use mathlib.Core.Bool.{Bool, true, false, _&&_}
 use mathlib.Core.List.{List}
 use Prim.Native.Nat.{ℕ, zero, suc, _+_, _*_, _/_, _%_, _≤_, _<_}
 use native.Mathlib.Decide.{ℕ-discrete}
 use native.Mathlib.Omega.{arith}
+use lib.Dec.{eqb}
 use lib.ListN.{getD}
-use borrow.Author.Tests.{eq-eqb, ne-eqb}
+use borrow.Author.Tests.{eqb-true, eqb-false, eq-eqb, ne-eqb}
+use Rattle.digits.proofs.Bools.{and-both}
 use Rattle.order.specs.Graph.{Depends, Sorted}
+use Rattle.order.proofs.ByOrder.{by-order}
 use Rattle.order.proofs.Values.{sorted-no-circle, val-rule, val-unique, val-next}
 use Rattle.component.specs.Kind.{Port, A, B, C, portOf, portUse, isOutput, isInput}
 use Rattle.component.specs.Row.{kind, port}
-use Rattle.wiring.specs.Ends.{endPort}
-use Rattle.wiring.specs.Signals.{Near, offerA, offerB, takeB, takeC, dependsOn, has, signalOf, nearOf, endOf, dependence}
+use Rattle.wiring.specs.Ends.{endPort, onSide}
+use Rattle.wiring.specs.Signals.{Near, offerA, offerB, takeB, takeC, dependsOn, has, signalOf, nearOf, isOffer, endOf, dependence}
 use Rattle.netlist.specs.Netlist.{Netlist, rowOf}
 use Rattle.netlist.specs.Accepted.{AcceptedFabric}
 use Rattle.rules.proofs.Rules.{reads-only}
 use Rattle.signals.specs.Signals.{componentAt, near, ruleAt, ruleOf, value, along}
+
+-- P of all that the rule at port p of component k reads
+abbrev pub OfRead : Netlist → (ℕ → Type 0) → ℕ → Port → Type 0
+OfRead f P k p = (n : Near) → has (dependsOn (kind (rowOf f k)) p) n ≡ true → P (signalOf (rowOf f k) n)
 
 module _ (f : Netlist) (ends order : List ℕ) (a : AcceptedFabric f ends order) where
   -- the component whose rule gives a signal
@@ -37,6 +44,36 @@ module _ (f : Netlist) (ends order : List ℕ) (a : AcceptedFabric f ends order)
   depends s h offerB i = record { entry = 1; below = omega arith; is = rw i; from = h; to = below _ (giver s h) offerB }
   depends s h takeB i = record { entry = 2; below = omega arith; is = rw i; from = h; to = below _ (giver s h) takeB }
   depends s h takeC i = record { entry = 3; below = omega arith; is = rw i; from = h; to = below _ (giver s h) takeC }
+
+  -- what holds of the signal at each port whenever it holds of all that its rule reads, holds of every signal
+  pub by-port : (P : ℕ → Type 0) →
+      ((k : ℕ) → k < f .components → (p : Port) → isOutput (portUse (kind (rowOf f k)) p) ≡ true → OfRead f P k p → P (2 * port (rowOf f k) p)) →
+      ((k : ℕ) → k < f .components → (p : Port) → isInput (portUse (kind (rowOf f k)) p) ≡ true → OfRead f P k p → P (2 * port (rowOf f k) p + 1)) →
+      (s : ℕ) → s < 2 * f .channels → P s
+  by-port P offer taken = by-order (dependence (f .table) (f .components)) (2 * f .channels) order (a .wires .sorted) P turn
+    where
+      turn : (s : ℕ) → s < 2 * f .channels → ((d : ℕ) → Depends (dependence (f .table) (f .components)) (2 * f .channels) s d → P d) → P s
+      turn s h before = go (isOffer s) refl (end .0)
+        where
+          e : ℕ
+          e = endOf (f .table) (f .components) s
+
+          row : List ℕ
+          row = rowOf f (e / 3)
+
+          end : (onSide (isOffer s) (portUse (kind row) (endPort e)) ≡ true) × (eqb (port row (endPort e)) (s / 2) ≡ true)
+          end = and-both _ _ (a .wires .matched .is s h)
+
+          at : port row (endPort e) ≡ s / 2
+          at = eqb-true _ _ (end .1)
+
+          go : (b : Bool) → isOffer s ≡ b → onSide b (portUse (kind row) (endPort e)) ≡ true → P s
+          go true q o =
+              let i : 2 * port row (endPort e) ≡ s = omega (arith, at, eqb-true (s % 2) 0 q) in
+              subst P i (offer (e / 3) (giver s h) (endPort e) o (λ n r. before _ (depends s h n r)))
+          go false q o =
+              let i : 2 * port row (endPort e) + 1 ≡ s = omega (arith, at, eqb-false (s % 2) 0 q) in
+              subst P i (taken (e / 3) (giver s h) (endPort e) o (λ n r. before _ (depends s h n r)))
 
   module _ (state choices : List ℕ) where
     -- the rule of a signal reads only what the signal depends on

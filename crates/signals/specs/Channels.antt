@@ -29,7 +29,7 @@ pub record There (signals : List ℕ) (x : ℕ) : Type 0 where
   pub flag : getD signals (2 * x + 1) 0 ≤ 1
 
 -- the rule of number n can be worked out, and its signal fits a byte
-pub record Readable (n : ℕ) (signals table : List ℕ) (k : ℕ) (cell : List ℕ) (pick a b c : ℕ) : Type 0 where
+pub record Readable (n : ℕ) (signals table : List ℕ) (k : ℕ) (cell : List ℕ) (choice a b c : ℕ) : Type 0 where
   pub rows : rowSize * k + rowSize ≤ length table
   pub cells : length cell ≡ cellSize
   pub below : n < 24
@@ -37,7 +37,7 @@ pub record Readable (n : ℕ) (signals table : List ℕ) (k : ℕ) (cell : List 
   pub atA : There signals a
   pub atB : There signals b
   pub atC : There signals c
-  pub small : ruleNumbered n (componentWith (row table k) cell pick) (seenAt signals a b c) ≤ 8
+  pub small : ruleNumbered n (componentWith (row table k) cell choice) (seenAt signals a b c) ≤ 8
 
 -- A plan of an accepted fabric, with its state and choices. plan::lay_out establishes `planned`; `states` and `chosen` hold once a call
 -- is not refused by 21 and 9; `small` holds in every good state under allowed choices, where no signal is above the

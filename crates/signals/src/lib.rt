@@ -40,7 +40,7 @@ pub fn bit_of(t: bool) -> u8
 }
 
 // The offer on channel x.
-fn offer_at(signals: &[u8], x: usize) -> Offer
+pub fn offer_at(signals: &[u8], x: usize) -> Offer
     requires { ⌜ 2 * x + 1 < length (now signals) ⌝ }
     ensures { λ r. ⌜ offerNumber r ≡ getD (now (signals .entry)) (2 * x) 0 ⌝ }
 {
@@ -82,19 +82,19 @@ fn signal(
     table: &[u8],
     k: usize,
     cell: &[u8],
-    pick: u8,
+    choice: u8,
     a: usize,
     b: usize,
     c: usize,
 ) -> u8
-    requires { ⌜ Readable rule (now s) (now table) k (now cell) pick a b c ⌝ }
-    ensures { λ r. ⌜ r ≡ ruleNumbered rule (componentWith (row (now (table .entry)) k) (now (cell .entry)) pick) (seenAt (now (s .entry)) a b c) ⌝ }
+    requires { ⌜ Readable rule (now s) (now table) k (now cell) choice a b c ⌝ }
+    ensures { λ r. ⌜ r ≡ ruleNumbered rule (componentWith (row (now (table .entry)) k) (now (cell .entry)) choice) (seenAt (now (s .entry)) a b c) ⌝ }
 {
     match rule {
         // Source.
-        0 => byte_of_offer(source_offer(cell, pick)),
+        0 => byte_of_offer(source_offer(cell, choice)),
         // Sink.
-        3 => bit_of(sink_take(cell, pick)),
+        3 => bit_of(sink_take(cell, choice)),
         // Queue.
         6 => bit_of(queue_take(table, k, cell)),
         7 => byte_of_offer(queue_offer(cell)),
@@ -114,9 +114,23 @@ fn signal(
         19 => byte_of_offer(switch_offer(table, k, 1, offer_at(s, a))),
         20 => byte_of_offer(switch_offer(table, k, 2, offer_at(s, a))),
         // Merge.
-        21 => bit_of(merge_take(pick, 0, offer_at(s, a), offer_at(s, b), take_at(s, c))),
-        22 => bit_of(merge_take(pick, 1, offer_at(s, a), offer_at(s, b), take_at(s, c))),
-        _ => byte_of_offer(merge_offer(pick, offer_at(s, a), offer_at(s, b))),
+        21 => bit_of(merge_take(
+            cell,
+            choice,
+            0,
+            offer_at(s, a),
+            offer_at(s, b),
+            take_at(s, c),
+        )),
+        22 => bit_of(merge_take(
+            cell,
+            choice,
+            1,
+            offer_at(s, a),
+            offer_at(s, b),
+            take_at(s, c),
+        )),
+        _ => byte_of_offer(merge_offer(cell, choice, offer_at(s, a), offer_at(s, b))),
     }
 }
 

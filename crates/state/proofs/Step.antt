@@ -10,7 +10,7 @@ use lib.ListN.{length, getD, take, drop, length-append, length-drop, List·getD-
 use lib.Seq.{getD-at, getD-drop, getD-take}
 use borrow.Author.Tests.{lt-ltb}
 use Rattle.digits.specs.UpTo.{upTo}
-use Rattle.component.specs.Kind.{Kind, source, sink, queue, function, fork, join, switch, merge, A, B}
+use Rattle.component.specs.Kind.{Kind, source, sink, queue, function, fork, join, switch, merge, A, B, C}
 use Rattle.component.specs.Row.{kind, port, capacity}
 use Rattle.netlist.specs.Netlist.{Netlist, rowOf}
 use Rattle.cells.specs.Cells.{cell, queueColours, cellWith, cellSize}
@@ -18,8 +18,9 @@ use Rattle.cells.specs.Good.{emitted, goodByte, goodCell, Good}
 use Rattle.cells.proofs.Cells.{cells-long, cells-at, cells-same, queue-length, queue-count, cell-queue}
 use Rattle.cells.proofs.Choices.{source-choice}
 use Rattle.cells.proofs.Good.{all-of, cell-long, good-byte, source-held, queue-count-le, queue-colour, queue-whole, Below, queue-good}
-use Rattle.rules.specs.Rules.{unless, offered, orElse}
-use Rattle.rules.proofs.Bounds.{unless-le, offered-le}
+use Rattle.rules.specs.Rules.{when, unless, offered, orElse, picksB}
+use Rattle.rules.proofs.Bounds.{when-le, unless-le, offered-le}
+use Rattle.rules.proofs.Merges.{picks-le}
 use Rattle.signals.specs.Signals.{componentAt, value, moved}
 use Rattle.signals.proofs.Moves.{signal-is}
 use Rattle.state.specs.Step.{dropped, appended, cellNext, offerOf, takeOf, nextAt, stateNext, next, CanStep}
@@ -65,6 +66,11 @@ module _ (f : Netlist) (ends order state choices : List ℕ) (t : CanStep f ends
       taken : ℕ
       taken = value f state choices (2 * port (rowOf f k) A + 1)
 
+      picked : ℕ
+      picked =
+          unless (value f state choices (2 * port (rowOf f k) C + 1))
+          (when (value f state choices (2 * port (rowOf f k) C)) (suc (picksB (getD (cell state k) 0 0) (getD choices k 0) offer (value f state choices (2 * port (rowOf f k) B)))))
+
       after : List ℕ
       after = appended (moved f state choices (port (rowOf f k) A)) (dropped (moved f state choices (port (rowOf f k) B)) (queueColours (cell state k)))
 
@@ -76,7 +82,7 @@ module _ (f : Netlist) (ends order state choices : List ℕ) (t : CanStep f ends
       go fork e = long
       go join e = long
       go switch e = long
-      go merge e = long
+      go merge e = held-long (cell state k) picked long
 
   pub next-cell : (k : ℕ) → k < f .components → cell (next f state choices) k ≡ nextAt f state choices (value f state choices) k
   unfolding next stateNext
@@ -104,6 +110,10 @@ unless-emitted : (r : List ℕ) (m a b : ℕ) → emitted r a ≡ true → emitt
 unless-emitted r (suc m) a b h k = refl
 unless-emitted r zero zero b h k = k
 unless-emitted r zero (suc a) b h k = h
+
+-- a pick that is kept is 1 or 2
+kept-small : (t o g : ℕ) → g ≤ 1 → unless t (when o (suc g)) < 3
+kept-small t o g h = omega (arith, unless-le t (when o (suc g)) 2 (when-le o (suc g) 2 (omega arith)))
 
 unless-small : (m a : ℕ) → unless m (offered a) < 2
 unless-small m a = omega (arith, unless-le m (offered a) 1 (offered-le a 1 (omega arith)))
@@ -162,7 +172,8 @@ module _ (f : Netlist) (ends order state choices : List ℕ) (t : CanStep f ends
   kept fork e j l = rw e at (good-byte f state (t .good) k h j l)
   kept join e j l = rw e at (good-byte f state (t .good) k h j l)
   kept switch e j l = rw e at (good-byte f state (t .good) k h j l)
-  kept merge e j l = rw e at (good-byte f state (t .good) k h j l)
+  kept merge e zero l = lt-ltb _ _ (kept-small (value f state choices (2 * port (rowOf f k) C + 1)) (value f state choices (2 * port (rowOf f k) C)) _ (picks-le (getD (cell state k) 0 0) (getD choices k 0) _ _))
+  kept merge e (suc j) l = rw (getD-drop, one-add) (rw e at (good-byte f state (t .good) k h (suc j) l))
 
   cell-kept : goodCell (f .colours) (rowOf f k) (cell (next f state choices) k) ≡ true
   unfolding goodCell nextAt

@@ -5,8 +5,8 @@ use Prim.Native.Nat.{ℕ, zero, suc, _≤_, _<_}
 use native.Mathlib.Omega.{arith}
 use lib.ListN.{length, drop, set}
 use Rattle.component.specs.Kind.{Port, kindOf}
-use Rattle.component.proofs.ByKind.{later-kind}
-use Rattle.rules.specs.Rules.{unless, offered, Component}
+use Rattle.component.proofs.ByKind.{middle-kind}
+use Rattle.rules.specs.Rules.{when, unless, offered, Component}
 use Rattle.signals.proofs.Channels.{flag-is}
 use Rattle.state.specs.Step.{cellNext}
 
@@ -25,7 +25,11 @@ source-holds o t p q = rw (p, q) (unless-offered t o)
 pub sink-holds : {offer taken : ℕ} (o t : ℕ) → t ≤ 1 → offer ≡ o → taken ≡ offered t → unless (offered offer) taken ≡ unless (offered o) t
 sink-holds o t h p q = rw (p, q, flag-is t h)
 
--- every other kind keeps its bytes
-pub cell-rest : (k : ℕ) (c : Component) (o t : Port → ℕ) → (k ≡ 0 → ⊥) → (k ≡ 1 → ⊥) → (k ≡ 2 → ⊥) → c .cell ≡ cellNext (kindOf k) c o t
+-- what a merge holds, where g is its pick
+pub merge-holds : {offer taken : ℕ} (o t g : ℕ) → offer ≡ o → taken ≡ offered t → unless taken (when offer g) ≡ unless t (when o g)
+merge-holds o t g p q = rw (p, q) (unless-offered t (when o g))
+
+-- function, fork, join and switch keep their bytes
+pub cell-rest : (k : ℕ) (c : Component) (o t : Port → ℕ) → (k ≡ 0 → ⊥) → (k ≡ 1 → ⊥) → (k ≡ 2 → ⊥) → k < 7 → c .cell ≡ cellNext (kindOf k) c o t
 unfolding cellNext
-cell-rest k c o t = later-kind (λ d. c .cell ≡ cellNext d c o t) refl refl refl refl refl k
+cell-rest k c o t = middle-kind (λ d. c .cell ≡ cellNext d c o t) refl refl refl refl k

@@ -2,14 +2,14 @@
 use mathlib.Core.List.{List, [], _∷_, _++_}
 use Prim.Native.Nat.{ℕ, zero, suc, _+_, _*_}
 use lib.ListN.{drop}
-use Rattle.component.specs.Kind.{Kind, source, sink, queue, function, fork, join, switch, merge, Port, A, B}
+use Rattle.component.specs.Kind.{Kind, source, sink, queue, function, fork, join, switch, merge, Port, A, B, C}
 use Rattle.component.specs.Row.{kind, port}
 use Rattle.netlist.specs.Netlist.{Netlist, rowOf}
 use Rattle.netlist.specs.Accepted.{AcceptedFabric}
 use Rattle.cells.specs.Good.{Good}
 use Rattle.cells.specs.Choices.{Allowed}
 use Rattle.cells.specs.Cells.{queueColours, cellWith, cells, cellSize}
-use Rattle.rules.specs.Rules.{Component, offered, when, unless}
+use Rattle.rules.specs.Rules.{Component, held, offered, when, unless, picksB}
 use Rattle.signals.specs.Signals.{componentAt, value}
 
 -- A queue drops its front if its output moved, then appends what came in.
@@ -28,8 +28,9 @@ cellNext queue c offerAt takeAt = cellWith (appended (when (takeAt A) (offerAt A
 cellNext source c offerAt takeAt = unless (takeAt A) (offerAt A) ∷ drop 1 (c .cell)
 -- A sink holds if it took and nothing was offered.
 cellNext sink c offerAt takeAt = unless (offered (offerAt A)) (takeAt A) ∷ drop 1 (c .cell)
--- Merges keep no state.
-cellNext merge c offerAt takeAt = c .cell
+-- A merge whose output was offered and not taken keeps its pick (1 A, 2 B, else 0).
+cellNext merge c offerAt takeAt = unless (takeAt C) (when (offerAt C) (suc (picksB (held c) (c .choice) (offerAt A) (offerAt B)))) ∷ drop 1 (c .cell)
+-- All else is 0.
 cellNext function c offerAt takeAt = c .cell
 cellNext fork c offerAt takeAt = c .cell
 cellNext join c offerAt takeAt = c .cell

@@ -1,27 +1,30 @@
 // The state of a fabric: what a step makes of it.
 ghost use mathlib.Core.Path.{_≡_};
-ghost use mathlib.Core.List.{List, _∷_};
-ghost use Prim.Native.Nat.{ℕ, _+_, _≤_, _<_};
+ghost use mathlib.Core.List.{_∷_};
+ghost use Prim.Native.Nat.{suc, _+_, _≤_, _<_};
 ghost use lib.ListN.{length, getD, drop};
 ghost use lib.Seq.{paste};
 ghost use Rattle.record.specs.Table.{row};
 ghost use Rattle.component.specs.Row.{kind};
 ghost use Rattle.netlist.specs.Netlist.{netlistOf};
 ghost use Rattle.cells.specs.Cells.{queueColours, cellWith, Queue, cellSize};
-ghost use Rattle.rules.specs.Rules.{offerNumber, bit, unless, offered, componentWith};
+ghost use Rattle.rules.specs.Rules.{offerNumber, bit, when, unless, offered, picksB, componentWith};
 ghost use Rattle.state.specs.Step.{dropped, appended, cellNext, offerOf, takeOf, stateNext};
 ghost use Rattle.state.specs.Updatable.{newest, Moves, Movable, Updatable};
 use cells::CELL_SIZE;
 use digits::wide;
 use netlist::Size;
 use rules::Channel;
+use rules::HeldMerge;
 use rules::HeldSink;
 use rules::HeldSource;
+use rules::Offer;
 use rules::byte_of_offer;
 use rules::offer_of_byte;
 use signals::bit_of;
 use signals::channel_at;
 use signals::moved_on;
+use signals::offer_at;
 
 // The bytes from 2 on move one place to the front.
 fn shift(q: &mut [u8])
@@ -124,11 +127,23 @@ fn sink_next(q: &mut [u8], channel: Channel)
     q[0] = bit_of(t.held);
 }
 
-// A component's bytes after a step, from the signals at its ports.
-fn cell_next(table: &[u8], k: usize, q: &mut [u8], signals: &[u8])
+// A merge after a step: it keeps its pick if its output was offered and not taken.
+fn merge_next(q: &mut [u8], choice: u8, a: Offer, b: Offer, output: Channel)
+    requires { ⌜ length (now q) ≡ cellSize ⌝ }
+    ensures { λ _. ⌜ now (q .exit) ≡ unless (bit (output .take)) (when (offerNumber (output .offer))
+        (suc (picksB (getD (now (q .entry)) 0 0) choice (offerNumber a) (offerNumber b)))) ∷ drop 1 (now (q .entry)) ⌝ }
+{
+    let n = q[0];
+    let m = HeldMerge { held: n };
+    let t = m.next(choice, a, b, output);
+    q[0] = t.held;
+}
+
+// A component's bytes after a step, from its choice and the signals at its ports.
+fn cell_next(table: &[u8], k: usize, q: &mut [u8], choice: u8, signals: &[u8])
     requires { ⌜ Movable (now table) k (now q) (now signals) ⌝ }
-    ensures { λ _. ⌜ ((pick : ℕ) → now (q .exit) ≡ cellNext (kind (row (now (table .entry)) k)) (componentWith (row (now (table .entry)) k) (now (q .entry)) pick)
-        (offerOf (row (now (table .entry)) k) (λ s. getD (now (signals .entry)) s 0)) (takeOf (row (now (table .entry)) k) (λ s. getD (now (signals .entry)) s 0))) ⌝ }
+    ensures { λ _. ⌜ now (q .exit) ≡ cellNext (kind (row (now (table .entry)) k)) (componentWith (row (now (table .entry)) k) (now (q .entry)) choice)
+        (offerOf (row (now (table .entry)) k) (λ s. getD (now (signals .entry)) s 0)) (takeOf (row (now (table .entry)) k) (λ s. getD (now (signals .entry)) s 0)) ⌝ }
 {
     let kind = component::kind(table, k);
     let a = wide(component::port(table, k, 0));
@@ -137,21 +152,31 @@ fn cell_next(table: &[u8], k: usize, q: &mut [u8], signals: &[u8])
         0 => source_next(&mut *q, channel_at(signals, a)),
         1 => sink_next(&mut *q, channel_at(signals, a)),
         2 => queue_next(&mut *q, moved_on(signals, a), moved_on(signals, b)),
-        _ => {}
+        3..=6 => {}
+        _ => {
+            let c = wide(component::port(table, k, 2));
+            merge_next(
+                &mut *q,
+                choice,
+                offer_at(signals, a),
+                offer_at(signals, b),
+                channel_at(signals, c),
+            );
+        }
     }
 }
 
-// The state after a step, from the signals.
-pub fn update(table: &[u8], size: Size, state: &mut [u8], signals: &[u8])
-    requires { ⌜ Updatable (now table) (size .components) (now state) (now signals) ⌝ }
-    ensures { λ _. ⌜ ((choices : List ℕ) → now (state .exit) ≡ stateNext (netlistOf size (now (table .entry)))
-        (now (state .entry)) choices (λ s. getD (now (signals .entry)) s 0)) ⌝ }
+// The state after a step, from the choices and the signals.
+pub fn update(table: &[u8], size: Size, state: &mut [u8], choices: &[u8], signals: &[u8])
+    requires { ⌜ Updatable (now table) (size .components) (now state) (now signals) × (size .components ≤ length (now choices)) ⌝ }
+    ensures { λ _. ⌜ now (state .exit) ≡ stateNext (netlistOf size (now (table .entry)))
+        (now (state .entry)) (now (choices .entry)) (λ s. getD (now (signals .entry)) s 0) ⌝ }
 {
     let mut k: usize = 0;
     while k < size.components {
         let at = CELL_SIZE * k;
         let end = at + CELL_SIZE;
-        cell_next(table, k, &mut state[at..end], signals);
+        cell_next(table, k, &mut state[at..end], choices[k], signals);
         k += 1;
     }
 }

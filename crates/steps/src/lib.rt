@@ -51,7 +51,7 @@ fn step_along(
         ++ drop (2 * size .channels) (now (signals .entry))) ⌝ }
 {
     signals::evaluate(table, size, plan, &state[..], choices, &mut *signals);
-    state::update(table, size, &mut *state, &signals[..]);
+    state::update(table, size, &mut *state, choices, &signals[..]);
 }
 
 // Takes one step, and writes what moved.

@@ -104,7 +104,7 @@ fn a_merge_waits_for_its_output() {
     for choice in [0, 1] {
         let mut state = started(&merged());
         assert_eq!(moves(&merged(), &mut state, &[1, 1, choice, 0]), [0; 3]);
-        assert_eq!(first_bytes(&state), [1, 1, 0, 0]);
+        assert_eq!(first_bytes(&state), [1, 1, 1 + choice, 0]);
     }
 }
 

@@ -7,6 +7,7 @@ mod circles;
 mod credit_loop;
 mod each_dependence;
 mod equations;
+mod held_merges;
 mod kinds;
 mod layout;
 mod listing;
@@ -18,6 +19,7 @@ mod order_of_check;
 mod order_of_check_many;
 mod order_of_step;
 mod panels;
+mod persistence;
 mod places;
 
 mod proposal_text;
@@ -39,6 +41,8 @@ mod wrong_fields;
 use crate::component::{Component, Kind};
 use crate::fabric::Fabric;
 use crate::packed::file_length;
+use crate::random::Random;
+use crate::random_fabric::{random_fabric, Plan};
 use crate::refusal::number_and_place;
 use crate::samples::{sink, source};
 use crate::state::COMPONENT_STATE;
@@ -149,6 +153,15 @@ fn term(component: usize, index: usize, multiplier: i64) -> Term {
         index,
         multiplier,
     }
+}
+
+fn fabric_of(random: &mut Random) -> Fabric {
+    let plan = Plan {
+        size: random.pick(&[3, 12, 60, 128]),
+        colours: random.between(1, 8),
+        circles: false,
+    };
+    random_fabric(random, &plan)
 }
 
 /// Two sources into a merge, and a sink.

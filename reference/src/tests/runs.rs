@@ -1,23 +1,12 @@
 //! A run is its steps one by one, and every accepted sum is kept.
 
-use super::{moves, started};
+use super::{fabric_of, moves, started};
 use crate::check::accepted_sum;
-use crate::fabric::Fabric;
 use crate::random::Random;
-use crate::random_fabric::{random_fabric, Plan};
 use crate::random_proposal::Equations;
 use crate::random_state::{random_choices, random_state};
 use crate::run;
 use crate::terms::write_proposal;
-
-fn fabric_of(random: &mut Random) -> Fabric {
-    let plan = Plan {
-        size: random.pick(&[3, 12, 60, 128]),
-        colours: random.between(1, 8),
-        circles: false,
-    };
-    random_fabric(random, &plan)
-}
 
 #[test]
 fn a_run_is_its_steps() {

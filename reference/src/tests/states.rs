@@ -1,10 +1,10 @@
 //! Which states are good.
 
-use super::{merged, source_then_sink, started};
+use super::{function, merged, source_then_sink, started};
 use crate::fabric::Fabric;
 use crate::refusal::number_and_place;
 use crate::run;
-use crate::samples::queue;
+use crate::samples::{credit_loop, queue, switch_row};
 
 /// The answer of a run of no steps on the started state with one byte changed.
 fn with_byte(fabric: &Fabric, place: usize, byte: u8) -> (u32, u64) {
@@ -51,12 +51,52 @@ fn a_count_is_at_most_the_capacity_and_colours_follow() {
 }
 
 #[test]
-fn a_sink_holds_1_and_others_nothing() {
+fn a_sink_holds_1() {
     assert_eq!(with_byte(&filled(), 128, 1), (0, 0));
     assert_eq!(with_byte(&filled(), 128, 2), (22, 2));
     assert_eq!(with_byte(&filled(), 129, 1), (22, 2));
-    assert_eq!(with_byte(&merged(), 128, 1), (22, 2));
-    assert_eq!(with_byte(&merged(), 191, 1), (22, 2));
+}
+
+#[test]
+fn a_merge_holds_1_or_2() {
+    for byte in [0, 1, 2] {
+        assert_eq!(with_byte(&merged(), 128, byte), (0, 0));
+    }
+    for byte in [3, 4, 127, 128, 255] {
+        assert_eq!(with_byte(&merged(), 128, byte), (22, 2));
+    }
+    for place in 129..192 {
+        for byte in [1, 2, 255] {
+            assert_eq!(with_byte(&merged(), place, byte), (22, 2));
+        }
+    }
+}
+
+#[test]
+fn a_holding_merge_has_no_other_bytes() {
+    for held in [1, 2] {
+        let mut state = started(&merged());
+        state[128] = held;
+        state[191] = 1;
+        let answer = run(&merged().to_file(), &mut state, &[]);
+        assert_eq!(number_and_place(&answer), (22, 2));
+    }
+}
+
+#[test]
+fn others_hold_nothing() {
+    let with_function = source_then_sink(function(0, 1));
+    for (fabric, component) in [
+        (with_function, 1),
+        (credit_loop(), 1),
+        (credit_loop(), 3),
+        (switch_row(1), 1),
+    ] {
+        for place in [0, 1, 63] {
+            let answer = with_byte(&fabric, 64 * component + place, 1);
+            assert_eq!(answer, (22, component as u64));
+        }
+    }
 }
 
 #[test]

@@ -1,8 +1,9 @@
 use mathlib.Core.Path.{sym, _∙_}
+use native.Mathlib.Omega.{arith}
 use borrow.Author.Needs.{needs}
 use Rattle.component.specs.Kind.{kindOf}
 use Rattle.cells.specs.Good.{goodByte}
-use Rattle.good.proofs.Cells.{first-rest}
+use Rattle.good.proofs.Cells.{first-rest, first-merge}
 use Rattle.good.proofs.first_good.Statement.{statement}
 use Rattle.good.proofs.first_good.Tie as tie
 
@@ -28,7 +29,12 @@ unfolding goodByte kindOf
 returns-3 c = λ u v. rw (sym (c .before .before .kind .ensures) ∙ c .match .keys3, c .before .capacity .ensures)
 
 returns-4 : tie.Need-returns-4
-returns-4 c = λ u v. rw (← c .before .before .kind .ensures) (first-rest _ _ u v _ (c .match .rest .0 .0 .1) (c .match .rest .0 .1) (c .match .rest .1))
+returns-4 c = λ u v.
+    let r = c .before .match .rest in
+    rw (← c .before .before .before .kind .ensures) (first-rest _ _ u v _ (r .0 .0 .1) (r .0 .1) (r .1) (omega arith))
+
+returns-5 : tie.Need-returns-5
+returns-5 c = λ u v. rw (← c .before .before .before .kind .ensures) (first-merge _ _ u v _ (omega arith))
 
 pub first-good-spec : {M : Type 1} → statement M
 first-good-spec =
@@ -40,4 +46,5 @@ first-good-spec =
     returns
     returns-2
     returns-3
-    returns-4)
+    returns-4
+    returns-5)

@@ -30,12 +30,12 @@ both-requires-4 c κs = search needs
 
 returns : tie.Need-returns
 unfolding rule portOf
-returns c = λ w s tb o.
+returns c = λ w tb o.
     rw (c .before .before .before .match .keys1, ← (c .before .before .before .before .picks-b .ensures)) (c .both2 .ensures ∙ when-not (c .before .before .before .before .picks-b .result) _ ∙ cc)
 
 returns-2 : tie.Need-returns-2
 unfolding rule portOf
-returns-2 c = λ w s tb o. rw (merge-rest (c .before .before .before .before .before .args .port) (c .before .before .before .match .rest .1) o) (cc)
+returns-2 c = λ w tb o. rw (merge-rest (c .before .before .before .before .before .before .args .port) (c .before .before .before .match .rest .1) o) (cc)
 
 pub merge-take-spec : {M : Type 1} → statement M
 merge-take-spec =

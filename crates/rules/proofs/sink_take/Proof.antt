@@ -12,7 +12,7 @@ take-requires : tie.Need-take-requires
 take-requires c κs = search needs
 
 returns : tie.Need-returns
-returns c = c .take .ensures ∙ offered-or (getD (c .before .before .before .args .cell .now) 0 0) (c .before .before .before .args .pick)
+returns c = c .take .ensures ∙ offered-or (getD (c .before .before .before .args .cell .now) 0 0) (c .before .before .before .args .choice)
 
 pub sink-take-spec : {M : Type 1} → statement M
 sink-take-spec = tie.close (tie.spec shared-slice-read-n take-requires returns)

@@ -1,4 +1,5 @@
 use mathlib.Core.Path.{_∙_}
+use native.Mathlib.Omega.{arith}
 use borrow.Author.Needs.{needs}
 use Rattle.netlist.specs.Netlist.{netlistOf}
 use Rattle.state.proofs.Bounds.{steps-ready}
@@ -18,7 +19,7 @@ update-requires : tie.Need-update-requires
 update-requires c κs =
     let s = c .before .before .before .before .before .before .before .before .before .before .before .before in
     let a = s .args in
-    updatable (netlistOf (a .size) (a .table .now)) _ _ (a .state .now) (a .choices .now) (along-steps (s .pre .0)) _ _ (c .before .before .before .before .evaluate .ensures)
+    (updatable (netlistOf (a .size) (a .table .now)) _ _ (a .state .now) (a .choices .now) (along-steps (s .pre .0)) _ _ (c .before .before .before .before .evaluate .ensures), omega (arith, s .pre .0 .allowed .long))
 
 same-length : tie.Need-same-length
 same-length c = search needs
@@ -31,7 +32,7 @@ returns c =
     let s = c .before .before .before .before .before .before .before .before .before .before .before .before .before .before .before in
     let a = s .args in
     let e = c .before .before .before .before .before .before .before .evaluate .ensures in
-    (c .before .before .update .ensures (a .choices .now) ∙ next-from (netlistOf (a .size) (a .table .now)) _ _ (a .state .now) (a .choices .now) (along-steps (s .pre .0)) _ _ e, e)
+    (c .before .before .update .ensures ∙ next-from (netlistOf (a .size) (a .table .now)) _ _ (a .state .now) (a .choices .now) (along-steps (s .pre .0)) _ _ e, e)
 
 pub step-along-spec : {M : Type 1} → statement M
 step-along-spec =

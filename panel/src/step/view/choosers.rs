@@ -42,12 +42,16 @@ fn choice(netlist: &Netlist, chooser: usize, step: &OneStep) -> Span {
     Span::new(word(netlist, chooser, byte), Style { colour, ..PLAIN })
 }
 
-/// The colour that a source holds, or whether a sink holds; a merge holds nothing.
+/// The colour that a source holds, whether a sink holds, the input whose pick a merge holds.
 fn held(netlist: &Netlist, chooser: usize, state: &[u8]) -> Span {
     let byte = state[COMPONENT_STATE * chooser];
     match netlist.fabric.components[chooser].kind {
         Kind::Source => packet_or_nothing(netlist, colour_or_none(byte)),
         Kind::Sink => yes_or_no(byte == 1),
-        _ => Span::plain(NOTHING),
+        // 1 for A, 2 for B: one more than the choice of that input.
+        _ => {
+            let held = byte.checked_sub(1);
+            Span::plain(held.map_or(NOTHING, |choice| word(netlist, chooser, choice)))
+        }
     }
 }

@@ -9,7 +9,9 @@ mod timing;
 
 use reference::random::Random;
 use reference::random_fabric::{random_fabric, Plan};
-use reference::samples::{credit_loop, credit_loops, function_row, looped_queues, switch_row};
+use reference::samples::{
+    credit_loop, credit_loops, function_row, looped_queues, merge_row, switch_row,
+};
 use reference::Fabric;
 
 use file_calls::{time_pack, time_unpack};
@@ -36,6 +38,7 @@ fn subjects() -> Vec<(String, Fabric)> {
         ("128 queues on themselves".to_string(), looped_queues(128)),
         ("128 in a row, 126 functions".to_string(), function_row(128)),
         ("63 switches into merges".to_string(), switch_row(63)),
+        ("63 merges in a row, most hold".to_string(), merge_row(63)),
     ];
     for (number, colours) in [(1, 1), (2, 4), (3, 8), (4, 8)] {
         let plan = Plan {

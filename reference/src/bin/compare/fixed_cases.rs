@@ -14,6 +14,7 @@ use crate::case::{Call, Case, Expected, Lent, LentCall};
 use crate::ceiling_cases::ceiling_cases;
 use crate::check_many_cases::check_many_cases;
 use crate::credit_loop_cases::credit_loop_cases;
+use crate::merge_cases::merge_cases;
 use crate::panel_cases::panel_cases;
 use crate::random_lists::long_run;
 
@@ -22,6 +23,7 @@ pub fn fixed_cases() -> Vec<Case> {
     cases.extend(credit_loop_cases());
     cases.extend(ceiling_cases());
     cases.extend(check_many_cases());
+    cases.extend(merge_cases());
     cases.extend(panel_cases());
     cases.push(heaviest_sum());
     cases.extend(long_runs());

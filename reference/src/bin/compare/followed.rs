@@ -3,6 +3,7 @@
 use std::fmt;
 
 use crate::followed_ceilings::CeilingCounts;
+use crate::followed_signals::SignalCounts;
 use crate::followed_sums::SumCounts;
 use crate::list::List;
 
@@ -12,6 +13,8 @@ pub struct Followed {
     block_sums: SumCounts,
     ceilings: CeilingCounts,
     below_capacity: CeilingCounts,
+    from_call_to_call: SignalCounts,
+    inside_runs: SignalCounts,
 }
 
 impl Followed {
@@ -25,6 +28,8 @@ impl Followed {
                 self.below_capacity.add(ceiling);
             }
         }
+        self.from_call_to_call.add(&list.signals.from_call_to_call);
+        self.inside_runs.add(&list.signals.inside_runs);
     }
 
     /// What was followed fewer than `least` times, and how often.
@@ -34,6 +39,12 @@ impl Followed {
             ("accepted sums of blocks", self.block_sums.sums),
             ("ceilings", self.ceilings.ceilings),
             ("ceilings below the capacity", self.below_capacity.ceilings),
+            ("offers not taken", self.from_call_to_call.offers),
+            ("takes without an offer", self.from_call_to_call.takes),
+            ("held picks", self.from_call_to_call.held_picks),
+            ("offers not taken inside runs", self.inside_runs.offers),
+            ("takes without an offer inside runs", self.inside_runs.takes),
+            ("held picks inside runs", self.inside_runs.held_picks),
         ];
         let seldom = wanted.into_iter().filter(|&(_, count)| count < least);
         seldom.collect()
@@ -45,6 +56,8 @@ impl fmt::Display for Followed {
         writeln!(out, "accepted sums: {}", self.sums)?;
         writeln!(out, "accepted sums of blocks: {}", self.block_sums)?;
         writeln!(out, "ceilings: {}", self.ceilings)?;
-        write!(out, "ceilings below the capacity: {}", self.below_capacity)
+        writeln!(out, "ceilings below the capacity: {}", self.below_capacity)?;
+        writeln!(out, "signals from call to call: {}", self.from_call_to_call)?;
+        write!(out, "signals inside runs: {}", self.inside_runs)
     }
 }

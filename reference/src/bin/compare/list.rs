@@ -1,19 +1,24 @@
 //! The list of calls of a case, and what is followed through it.
 
 use reference::state::COMPONENT_STATE;
+use reference::Fabric;
 
 use crate::case::Call;
 use crate::difference::Difference;
 use crate::followed_ceilings::FollowedCeiling;
+use crate::followed_signals::FollowedSignals;
 use crate::followed_sums::FollowedSum;
 
 /// A start that is accepted, then the list. Checks and ceilings stand outside the list.
 #[derive(Default)]
 pub struct List {
-    started: bool,
+    pub started: bool,
     pub sums: Vec<FollowedSum>,
     pub block_sums: Vec<FollowedSum>,
     pub ceilings: Vec<FollowedCeiling>,
+    /// Read when the first steps are followed.
+    pub fabric: Option<Fabric>,
+    pub signals: FollowedSignals,
 }
 
 impl List {

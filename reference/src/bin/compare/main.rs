@@ -2,6 +2,7 @@
 
 mod answer;
 mod as_expected;
+mod bad_merges;
 mod block_counts;
 mod case;
 mod ceiling_cases;
@@ -23,13 +24,16 @@ mod difference;
 mod each_alone;
 mod fixed_cases;
 mod follow_accepted;
+mod follow_steps;
 mod followed;
 mod followed_ceilings;
+mod followed_signals;
 mod followed_sums;
 mod judged_block;
 mod lent_memory;
 mod library_side;
 mod list;
+mod merge_cases;
 mod options;
 mod panel_cases;
 mod random_calls;
@@ -56,7 +60,8 @@ use random_cases::random_case;
 use trial::Trial;
 
 /// How often each number of each call must be reached, how many blocks must be judged in each way,
-/// and how many accepted sums and ceilings must be followed through a list of calls.
+/// how many states refused because of a merge, and how many accepted sums, ceilings and signals must
+/// be followed through a list of calls.
 const LEAST: u64 = 1000;
 
 fn main() -> ExitCode {
@@ -120,6 +125,7 @@ fn compare(options: &Options) -> ExitCode {
     );
     println!("{}", trial.followed);
     println!("{}", trial.blocks);
+    println!("{}", trial.bad_merges);
     println!("{}", trial.counts);
     verdict(found, &too_few(&trial))
 }
@@ -134,6 +140,8 @@ fn too_few(trial: &Trial) -> Vec<String> {
     lines.extend(seldom.map(|(what, count)| format!("{what} followed through a list: {count}")));
     let too_few = trial.blocks.too_few(LEAST);
     lines.extend(too_few.map(|(what, count)| format!("blocks {what}: {count}")));
+    let too_few = trial.bad_merges.too_few(LEAST);
+    lines.extend(too_few.map(|(what, count)| format!("merges refused {what}: {count}")));
     lines
 }
 

@@ -1,6 +1,7 @@
 //! Runs a case on both sides and compares all that comes back.
 
 use crate::answer::Answer;
+use crate::bad_merges::BadMerges;
 use crate::block_counts::BlockCounts;
 use crate::case::{Call, Case, Lent};
 use crate::counts::Counts;
@@ -12,6 +13,9 @@ use crate::{library_side, second_side};
 
 /// At least as much as any case lends in one piece.
 const ROOM: usize = 1 << 21;
+
+/// State not good.
+const BAD_STATE: u32 = 22;
 
 /// The parts of lent memory: fabric or table, state, choices, proposal or blocks, and a result's
 /// memory.
@@ -26,6 +30,7 @@ pub struct Trial {
     pub counts: Counts,
     pub followed: Followed,
     pub blocks: BlockCounts,
+    pub bad_merges: BadMerges,
 }
 
 impl Trial {
@@ -35,6 +40,7 @@ impl Trial {
             counts: Counts::new(),
             followed: Followed::default(),
             blocks: BlockCounts::default(),
+            bad_merges: BadMerges::default(),
         }
     }
 
@@ -58,6 +64,11 @@ impl Trial {
                 .map_err(describe)?;
             if last == 0 {
                 self.follow(&mut list, lent.call, &answer);
+                self.follow_steps(&mut list, lent.call, &state)
+                    .map_err(describe)?;
+            }
+            if last == BAD_STATE {
+                self.add_bad_state(&answer, &state);
             }
             list.after(lent.call, last, self.parts[STATE].bytes())
                 .map_err(describe)?;

@@ -3,7 +3,7 @@
 use reference::packed::{CHECK_BYTE, HEADER};
 use reference::random::Random;
 use reference::random_fabric::{random_fabric, Plan};
-use reference::samples::{credit_loops, looped_queues, switch_row};
+use reference::samples::{credit_loops, looped_queues, merge_row, switch_row};
 use reference::Fabric;
 
 use crate::damaged_fabric::damage_fabric;
@@ -35,7 +35,8 @@ pub fn good_fabric(random: &mut Random) -> Fabric {
         0..4 => return credit_loops(random.between(1, 21)),
         4..6 => return looped_queues(random.between(1, 128)),
         6..8 => return switch_row(random.between(1, 63)),
-        8..75 => random.between(1, 16),
+        8..10 => return merge_row(random.between(1, 63)),
+        10..75 => random.between(1, 16),
         75..90 => random.between(1, 60),
         _ => 128,
     };

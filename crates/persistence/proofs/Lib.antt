@@ -1,0 +1,5 @@
+pub mod Lasts
+pub mod Bytes
+pub mod ByKind
+pub mod Persistent
+pub mod Held

@@ -1,0 +1,2 @@
+pub mod Persistent
+pub mod Held

@@ -1,0 +1,1 @@
+// Laws of two steps in a row: what waits stays; there is no code here.

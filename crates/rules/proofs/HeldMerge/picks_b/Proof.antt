@@ -1,0 +1,30 @@
+use mathlib.Core.Path.{sym}
+use borrow.Author.Needs.{needs}
+use Rattle.rules.proofs.Merges.{only-a, only-b, of-both}
+use Rattle.rules.proofs.HeldMerge.picks_b.Statement.{statement}
+use Rattle.rules.proofs.HeldMerge.picks_b.Tie as tie
+
+enum-told : tie.Need-enum-told
+enum-told c = search needs
+
+enum-told-2 : tie.Need-enum-told-2
+enum-told-2 c = search needs
+
+enum-told-3 : tie.Need-enum-told-3
+enum-told-3 c = search needs
+
+enum-told-4 : tie.Need-enum-told-4
+enum-told-4 c = search needs
+
+returns : tie.Need-returns
+returns c = rw (c .enum-told2 .given .1, c .before .before .enum-told .given .1) (of-both (c .before .before .before .before .args .self .held) (c .before .before .before .before .args .choice) _ _)
+
+returns-2 : tie.Need-returns-2
+returns-2 c = rw (c .enum-told3 .given .1, c .before .before .enum-told .given .1) (sym (only-a (c .before .before .before .before .args .self .held) (c .before .before .before .before .args .choice) _))
+
+returns-3 : tie.Need-returns-3
+returns-3 c = rw (c .enum-told4 .given .1) (sym (only-b (c .before .before .args .self .held) (c .before .before .args .choice) _))
+
+pub picks-b-spec : {M : Type 1} → statement M
+picks-b-spec =
+    tie.close (tie.spec enum-told enum-told-2 enum-told-3 enum-told-4 returns returns-2 returns-3)
