@@ -17,7 +17,9 @@ use Rattle.cells.specs.Counts.{counts}
 use Rattle.cells.proofs.Cells.{colours-of-cell}
 use Rattle.cells.proofs.Good.{cell-long, source-held}
 use Rattle.cells.proofs.Choices.{source-choice}
-use Rattle.rules.specs.Rules.{when, offered, orElse, picksB, rule}
+use Rattle.held.specs.Values.{when, offered, orElse}
+use Rattle.held.specs.Picks.{picksB}
+use Rattle.rules.specs.Rules.{rule}
 use Rattle.signals.specs.Signals.{componentAt, near, value, moved}
 use Rattle.state.specs.Step.{cellNext, appended, dropped, nextAt, next, CanStep}
 use Rattle.state.proofs.Transfers.{out-moves, in-moves}

@@ -7,7 +7,7 @@ use native.Mathlib.Omega.{arith}
 use lib.Dec.{eqb, eqb·zero-suc, eqb·suc-suc}
 use Rattle.cells.specs.Counts.{countIn}
 use Rattle.cells.proofs.Counts.{count-append}
-use Rattle.rules.specs.Rules.{bit}
+use Rattle.held.specs.Values.{bit}
 use Rattle.state.specs.Step.{dropped, appended}
 
 flag : (b : Bool) → cond b 1 0 ≡ bit b

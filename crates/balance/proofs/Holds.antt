@@ -13,7 +13,8 @@ use Rattle.component.specs.Kind.{Kind, source, sink, queue, function, fork, joi
 use Rattle.component.specs.Row.{kind, port, firstMap, secondMap, masked}
 use Rattle.netlist.specs.Netlist.{Netlist, rowOf}
 use Rattle.cells.specs.Counts.{counts}
-use Rattle.rules.specs.Rules.{bit, offered, when, unless, mapped, toB}
+use Rattle.held.specs.Values.{bit, offered, when, unless}
+use Rattle.rules.specs.Rules.{mapped, toB}
 use Rattle.signals.specs.Signals.{moved}
 use Rattle.state.specs.Step.{next, CanStep}
 use Rattle.state.proofs.Bounds.{moved-le}

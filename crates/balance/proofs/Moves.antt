@@ -5,8 +5,9 @@ use mathlib.Core.Bool.{Bool, true, false}
 use mathlib.Core.List.{List}
 use Prim.Native.Nat.{ℕ, zero, suc}
 use Rattle.component.specs.Row.{masked}
-use Rattle.rules.specs.Rules.{when, unless, offered, mapped, either, toB}
-use Rattle.rules.proofs.Values.{when-none}
+use Rattle.held.specs.Values.{when, unless, offered, either}
+use Rattle.rules.specs.Rules.{mapped, toB}
+use Rattle.held.proofs.Values.{when-none}
 
 -- a map, behind one gate, behind two, behind the two in the other order
 pub mapped-one : (m : ℕ → ℕ) (g o : ℕ) → when g (mapped m o) ≡ mapped m (when g o)

@@ -9,7 +9,8 @@ use lib.IntN.{ℤ}
 use Rattle.integers.specs.Sum.{same}
 use Rattle.component.specs.Kind.{Kind, source, sink, queue, function, fork, join, switch, merge, A, B, C}
 use Rattle.component.specs.Row.{port, firstMap, secondMap, masked}
-use Rattle.rules.specs.Rules.{bit, when, unless, offered, mapped, toB}
+use Rattle.held.specs.Values.{bit, when, unless, offered}
+use Rattle.rules.specs.Rules.{mapped, toB}
 
 -- at one component: n d and m d are its counts of d
 unfoldable pub Balanced : Kind → List ℕ → (ℕ → ℕ) → (ℕ → ℕ) → (ℕ → ℕ) → Type 0

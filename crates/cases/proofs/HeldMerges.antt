@@ -25,7 +25,8 @@ use Rattle.cells.specs.Good.{goodByte, all, goodCell, badComponent}
 use Rattle.cells.specs.Start.{startCell, startAt, started}
 use Rattle.cells.proofs.Choices.{no-bad-choice}
 use Rattle.cells.proofs.Good.{no-bad-component}
-use Rattle.rules.specs.Rules.{picksB, rule}
+use Rattle.held.specs.Picks.{picksB}
+use Rattle.rules.specs.Rules.{rule}
 use Rattle.signals.specs.Signals.{ruleOf, value, moved, moves}
 use Rattle.state.specs.Step.{cellNext, nextAt, stateNext, next}
 use Rattle.stepping.specs.Calls.{startVerdict, stateAfterStart, stepVerdict, stateAfterStep, movesAfterStep}

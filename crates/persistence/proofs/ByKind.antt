@@ -9,9 +9,11 @@ use Rattle.component.specs.Row.{port, firstMap, secondMap, capacity}
 use Rattle.wiring.specs.Ends.{onSide}
 use Rattle.wiring.specs.Signals.{Near, offerA, offerB, takeB, takeC, dependsOn, has, signalOf}
 use Rattle.cells.specs.Cells.{Queue}
-use Rattle.rules.specs.Rules.{Component, componentWith, held, rule, when, unless, offered, orElse, either, mapped, toB, picksB}
-use Rattle.rules.proofs.Values.{when-none, unless-none}
-use Rattle.rules.proofs.Merges.{picks-le}
+use Rattle.held.specs.Values.{when, unless, offered, orElse, either}
+use Rattle.held.specs.Picks.{picksB}
+use Rattle.rules.specs.Rules.{Component, componentWith, held, rule, mapped, toB}
+use Rattle.held.proofs.Values.{when-none, unless-none}
+use Rattle.held.proofs.Picks.{picks-le}
 use Rattle.signals.specs.Signals.{near}
 use Rattle.state.specs.Step.{cellNext, offerOf, takeOf}
 use Rattle.persistence.proofs.Lasts.{Lasts, LastsAt, twin-offer, twin-take, lasts-never, lasts-one, lasts-both}

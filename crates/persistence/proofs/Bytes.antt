@@ -9,8 +9,9 @@ use lib.ListN.{length, getD}
 use borrow.Author.Tests.{ltb-true, lt-ltb}
 use Rattle.cells.specs.Cells.{queueColours, cellWith, Queue}
 use Rattle.cells.proofs.Cells.{queue-count}
-use Rattle.rules.specs.Rules.{bit, when, unless, offered, orElse, either, picksB}
-use Rattle.rules.proofs.Values.{when-none, when-open}
+use Rattle.held.specs.Values.{bit, when, unless, offered, orElse, either}
+use Rattle.held.specs.Picks.{picksB}
+use Rattle.held.proofs.Values.{when-none, when-open}
 use Rattle.state.specs.Step.{dropped, appended}
 use Rattle.state.proofs.Updatable.{dropped-le}
 use Rattle.persistence.proofs.Lasts.{Lasts, lasts-never}

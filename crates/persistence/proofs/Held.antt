@@ -11,8 +11,10 @@ use Rattle.netlist.specs.Accepted.{AcceptedFabric}
 use Rattle.cells.specs.Cells.{cell}
 use Rattle.cells.specs.Start.{startCell, started}
 use Rattle.cells.proofs.Start.{start-cell}
-use Rattle.rules.specs.Rules.{when, unless, offered, either, picksB, rule}
-use Rattle.rules.proofs.Values.{when-none}
+use Rattle.held.specs.Values.{when, unless, offered, either}
+use Rattle.held.specs.Picks.{picksB}
+use Rattle.rules.specs.Rules.{rule}
+use Rattle.held.proofs.Values.{when-none}
 use Rattle.signals.specs.Signals.{value}
 use Rattle.signals.proofs.Signals.{value-output, value-input}
 use Rattle.state.specs.Step.{cellNext, nextAt, next, CanStep}

@@ -2,7 +2,7 @@
 use mathlib.Core.Path.{_≡_}
 use Prim.Native.Nat.{ℕ, zero, suc, _+_, _-_, _*_, _/_, _<_}
 use native.Mathlib.Omega.{arith}
-use Rattle.rules.specs.Rules.{when}
+use Rattle.held.specs.Values.{when}
 use Rattle.state.proofs.Updatable.{when-open}
 
 -- A signal is a before and b after a step; t is its twin before it, the other signal of its channel. If it waits, it stays.

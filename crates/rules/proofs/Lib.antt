@@ -1,5 +1,3 @@
-pub mod Values
-pub mod Merges
 pub mod Ports
 pub mod Rules
 pub mod Seen

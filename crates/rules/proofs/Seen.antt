@@ -11,7 +11,8 @@ use Rattle.digits.proofs.Arms.{Rest, no-arm}
 use Rattle.component.specs.Kind.{fork, join, switch, merge, kindOf, portOf, portUse, isUsed}
 use Rattle.component.specs.Row.{mapOf, capacity}
 use Rattle.component.proofs.Row.{each-kind, numbered}
-use Rattle.rules.specs.Rules.{bit, when, offered, orElse, mapped, componentWith, rule}
+use Rattle.held.specs.Values.{bit, when, offered, orElse}
+use Rattle.rules.specs.Rules.{mapped, componentWith, rule}
 use Rattle.rules.specs.Seen.{seen, ruleNumbered, useOf, Offers, Takes}
 
 -- r is what the rule of number n gives

@@ -1,6 +1,4 @@
--- The rules of the eight kinds. offer(x) is the field's irdy with data: 0 for none, 1 + d for colour d, as in the state, the choices
--- and the moves. take(x) is its trdy: 0 or 1.
-use mathlib.Core.Bool.{Bool, true, false}
+-- The rules of the eight kinds, over offers and takes as numbers.
 use mathlib.Core.List.{List}
 use Prim.Native.Nat.{ℕ, zero, suc}
 use lib.ListN.{getD}
@@ -8,42 +6,8 @@ use lib.Dec.{ltb}
 use Rattle.component.specs.Kind.{Kind, source, sink, queue, function, fork, join, switch, merge, Port, A, B, C}
 use Rattle.component.specs.Row.{firstMap, secondMap, masked, capacity}
 use Rattle.wiring.specs.Signals.{Near, offerA, offerB, takeB, takeC}
-use Rattle.rules.specs.declared.Offer.{Offer}
-use Rattle.rules.specs.declared.Offer.the-variants.{Nothing, Colour}
-
--- the number of an offer, and of a flag
-abbrev pub offerNumber : Offer → ℕ
-offerNumber Nothing = 0
-offerNumber (Colour d) = suc d
-
-abbrev pub bit : Bool → ℕ
-bit false = 0
-bit true = 1
-
--- v if g, else 0
-abbrev pub when : ℕ → ℕ → ℕ
-when zero v = 0
-when (suc g) v = v
-
--- v unless g, else 0
-abbrev pub unless : ℕ → ℕ → ℕ
-unless zero v = v
-unless (suc g) v = 0
-
--- 1 for a colour, 0 for none
-abbrev pub offered : ℕ → ℕ
-offered zero = 0
-offered (suc d) = 1
-
--- the first that is not 0
-abbrev pub orElse : ℕ → ℕ → ℕ
-orElse zero b = b
-orElse (suc a) b = suc a
-
--- a for 0, else b
-abbrev pub either : ℕ → ℕ → ℕ → ℕ
-either zero a b = a
-either (suc g) a b = b
+use Rattle.held.specs.Values.{bit, when, unless, offered, orElse, either}
+use Rattle.held.specs.Picks.{picksB}
 
 -- the mapped colour of an offer
 abbrev pub mapped : (ℕ → ℕ) → ℕ → ℕ
@@ -54,18 +18,6 @@ mapped map (suc d) = suc (map d)
 abbrev pub toB : List ℕ → ℕ → ℕ
 toB row zero = 0
 toB row (suc d) = bit (masked row d)
-
--- 1 for B, 0 for A: if both inputs are offered the choice picks (0 A, 1 B), else the one offered
-abbrev pub chosenB : ℕ → ℕ → ℕ → ℕ
-chosenB choice zero b = 1
-chosenB choice (suc a) zero = 0
-chosenB choice (suc a) (suc b) = offered choice
-
--- 1 if a merge picks B, 0 if A: while the held input (1 A, 2 B) is offered it is picked over the choice
-unfoldable pub picksB : ℕ → ℕ → ℕ → ℕ → ℕ
-picksB zero choice a b = chosenB choice a b
-picksB (suc zero) choice a b = either a (chosenB choice a b) 0
-picksB (suc (suc h)) choice a b = either b (chosenB choice a b) 1
 
 -- a component in a state under a choice: its row of the table, its 64 bytes, its choice byte
 pub record Component : Type 0 where

@@ -7,9 +7,10 @@ use mir.Val.{Fits}
 use mir.Syntax.{w8}
 use lib.ListN.{getD}
 use Rattle.record.specs.Table.{row}
-use Rattle.rules.specs.Rules.{when, offered, componentWith}
+use Rattle.held.specs.Values.{when, offered}
+use Rattle.rules.specs.Rules.{componentWith}
 use Rattle.rules.specs.Seen.{ruleNumbered}
-use Rattle.rules.proofs.Bounds.{when-le}
+use Rattle.held.proofs.Bounds.{when-le}
 use Rattle.rules.proofs.Seen.{Ruled}
 use Rattle.signals.specs.Channels.{seenAt, There, Readable}
 

@@ -21,7 +21,7 @@ use Rattle.cells.specs.Cells.{cell, cellSize}
 use Rattle.rules.specs.Rules.{Component, rule}
 use Rattle.rules.specs.Seen.{ruleNumbered, useOf}
 use Rattle.rules.proofs.Rules.{reads-only}
-use Rattle.rules.proofs.Bounds.{when-le, unless-le, either-le, offered-le, bit-le}
+use Rattle.held.proofs.Bounds.{when-le, unless-le, either-le, offered-le, bit-le}
 use Rattle.plan.specs.Plan.{planField, Planned}
 use Rattle.plan.proofs.Plan.{owner}
 use Rattle.signals.specs.Signals.{componentAt, near, value}

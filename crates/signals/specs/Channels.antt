@@ -10,7 +10,8 @@ use Rattle.component.specs.Kind.{isUsed}
 use Rattle.wiring.specs.Signals.{Near}
 use Rattle.netlist.specs.Netlist.{Netlist}
 use Rattle.cells.specs.Cells.{cellSize}
-use Rattle.rules.specs.Rules.{when, componentWith}
+use Rattle.held.specs.Values.{when}
+use Rattle.rules.specs.Rules.{componentWith}
 use Rattle.rules.specs.Seen.{seen, ruleNumbered, useOf}
 use Rattle.plan.specs.Plan.{Planned}
 use Rattle.signals.specs.Signals.{value}

@@ -12,7 +12,8 @@ use Rattle.wiring.specs.Ends.{endPort}
 use Rattle.wiring.specs.Signals.{Near, signalOf, endOf}
 use Rattle.netlist.specs.Netlist.{Netlist, rowOf}
 use Rattle.cells.specs.Cells.{cell}
-use Rattle.rules.specs.Rules.{Component, componentWith, rule, when}
+use Rattle.held.specs.Values.{when}
+use Rattle.rules.specs.Rules.{Component, componentWith, rule}
 
 abbrev pub componentAt : Netlist → List ℕ → List ℕ → ℕ → Component
 componentAt f state choices k = componentWith (rowOf f k) (cell state k) (getD choices k 0)

@@ -7,16 +7,17 @@ ghost use lib.ListN.{length, getD, drop};
 ghost use Rattle.digits.specs.UpTo.{upTo};
 ghost use Rattle.record.specs.Table.{row};
 ghost use Rattle.netlist.specs.Netlist.{netlistOf};
-ghost use Rattle.rules.specs.Rules.{offerNumber, bit, offered, componentWith};
+ghost use Rattle.held.specs.Values.{offerNumber, bit, offered};
+ghost use Rattle.rules.specs.Rules.{componentWith};
 ghost use Rattle.rules.specs.Seen.{ruleNumbered};
 ghost use Rattle.signals.specs.Signals.{value};
 ghost use Rattle.signals.specs.Channels.{seenAt, movedIn, There, Readable, Ready};
 use cells::CELL_SIZE;
+use held::Channel;
+use held::Offer;
+use held::byte_of_offer;
 use netlist::Size;
-use rules::Channel;
-use rules::Offer;
 use rules::both;
-use rules::byte_of_offer;
 use rules::fork_offer;
 use rules::join_offer;
 use rules::join_take;
@@ -44,7 +45,7 @@ pub fn offer_at(signals: &[u8], x: usize) -> Offer
     requires { ⌜ 2 * x + 1 < length (now signals) ⌝ }
     ensures { λ r. ⌜ offerNumber r ≡ getD (now (signals .entry)) (2 * x) 0 ⌝ }
 {
-    rules::offer_of_byte(signals[2 * x])
+    held::offer_of_byte(signals[2 * x])
 }
 
 // Whether channel x is taken.

@@ -13,8 +13,10 @@ use Rattle.wiring.specs.Signals.{Near, offerA, offerB, takeB, takeC, endOf}
 use Rattle.netlist.specs.Netlist.{Netlist, rowOf}
 use Rattle.cells.proofs.Choices.{source-choice}
 use Rattle.cells.proofs.Good.{emitted-le, source-held, queue-colour}
-use Rattle.rules.specs.Rules.{when, Component, held, rule}
-use Rattle.rules.proofs.Bounds.{when-le, unless-le, either-le, orElse-le, offered-le, bit-le, mapped-le}
+use Rattle.held.specs.Values.{when}
+use Rattle.rules.specs.Rules.{Component, held, rule}
+use Rattle.held.proofs.Bounds.{when-le, unless-le, either-le, orElse-le, offered-le, bit-le}
+use Rattle.rules.proofs.Bounds.{mapped-le}
 use Rattle.plan.specs.Plan.{Planned}
 use Rattle.signals.specs.Channels.{Ready}
 use Rattle.signals.specs.Signals.{componentAt, near, ruleOf, value, moved}

@@ -8,7 +8,7 @@ use native.Mathlib.Nat.{add-zero}
 use lib.ListN.{length, getD, drop, set, replicate, length-append, length-drop, length-replicate, replicate-append-replicate}
 use lib.Seq.{paste, paste-suc, set-at, drop-cons, append-snoc, getD-drop, drop-paste, set-append-seam, take-all, drop-length, set-getD}
 use Rattle.cells.specs.Cells.{queueColours, cellWith, Queue}
-use Rattle.rules.specs.Rules.{offered}
+use Rattle.held.specs.Values.{offered}
 use Rattle.state.specs.Step.{appended}
 use Rattle.state.specs.Updatable.{newest}
 

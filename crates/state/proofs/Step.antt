@@ -18,9 +18,10 @@ use Rattle.cells.specs.Good.{emitted, goodByte, goodCell, Good}
 use Rattle.cells.proofs.Cells.{cells-long, cells-at, cells-same, queue-length, queue-count, cell-queue}
 use Rattle.cells.proofs.Choices.{source-choice}
 use Rattle.cells.proofs.Good.{all-of, cell-long, good-byte, source-held, queue-count-le, queue-colour, queue-whole, Below, queue-good}
-use Rattle.rules.specs.Rules.{when, unless, offered, orElse, picksB}
-use Rattle.rules.proofs.Bounds.{when-le, unless-le, offered-le}
-use Rattle.rules.proofs.Merges.{picks-le}
+use Rattle.held.specs.Values.{when, unless, offered, orElse}
+use Rattle.held.specs.Picks.{picksB}
+use Rattle.held.proofs.Bounds.{when-le, unless-le, offered-le}
+use Rattle.held.proofs.Picks.{picks-le}
 use Rattle.signals.specs.Signals.{componentAt, value, moved}
 use Rattle.signals.proofs.Moves.{signal-is}
 use Rattle.state.specs.Step.{dropped, appended, cellNext, offerOf, takeOf, nextAt, stateNext, next, CanStep}

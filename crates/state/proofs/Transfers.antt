@@ -9,7 +9,8 @@ use Rattle.component.specs.Row.{kind, port}
 use Rattle.netlist.specs.Netlist.{Netlist, rowOf}
 use Rattle.netlist.specs.Accepted.{AcceptedFabric}
 use Rattle.cells.specs.Cells.{cell}
-use Rattle.rules.specs.Rules.{when, offered, orElse, rule}
+use Rattle.held.specs.Values.{when, offered, orElse}
+use Rattle.rules.specs.Rules.{rule}
 use Rattle.signals.specs.Signals.{ruleAt, value, moved}
 use Rattle.signals.proofs.Signals.{value-output, value-input}
 

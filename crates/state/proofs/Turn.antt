@@ -6,7 +6,8 @@ use native.Mathlib.Omega.{arith}
 use lib.ListN.{length, drop, set}
 use Rattle.component.specs.Kind.{Port, kindOf}
 use Rattle.component.proofs.ByKind.{middle-kind}
-use Rattle.rules.specs.Rules.{when, unless, offered, Component}
+use Rattle.held.specs.Values.{when, unless, offered}
+use Rattle.rules.specs.Rules.{Component}
 use Rattle.signals.proofs.Channels.{flag-is}
 use Rattle.state.specs.Step.{cellNext}
 

@@ -14,7 +14,8 @@ use Rattle.netlist.specs.Netlist.{Netlist, rowOf}
 use Rattle.cells.specs.Cells.{cell, queueColours}
 use Rattle.cells.proofs.Cells.{queue-count}
 use Rattle.cells.proofs.Good.{cell-long, queue-whole}
-use Rattle.rules.specs.Rules.{bit, when, offered, rule}
+use Rattle.held.specs.Values.{bit, when, offered}
+use Rattle.rules.specs.Rules.{rule}
 use Rattle.signals.specs.Signals.{value, moved}
 use Rattle.signals.proofs.Moves.{moved-is, all-there}
 use Rattle.state.specs.Step.{dropped, CanStep}

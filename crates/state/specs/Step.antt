@@ -9,7 +9,9 @@ use Rattle.netlist.specs.Accepted.{AcceptedFabric}
 use Rattle.cells.specs.Good.{Good}
 use Rattle.cells.specs.Choices.{Allowed}
 use Rattle.cells.specs.Cells.{queueColours, cellWith, cells, cellSize}
-use Rattle.rules.specs.Rules.{Component, held, offered, when, unless, picksB}
+use Rattle.held.specs.Values.{offered, when, unless}
+use Rattle.held.specs.Picks.{picksB}
+use Rattle.rules.specs.Rules.{Component, held}
 use Rattle.signals.specs.Signals.{componentAt, value}
 
 -- A queue drops its front if its output moved, then appends what came in.

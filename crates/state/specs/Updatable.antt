@@ -9,7 +9,7 @@ use Rattle.component.specs.Kind.{Port, queue, A, B}
 use Rattle.component.specs.Row.{kind, port}
 use Rattle.component.specs.Limits.{mostComponents}
 use Rattle.cells.specs.Cells.{cell, queueColours, Queue, cellSize}
-use Rattle.rules.specs.Rules.{offered}
+use Rattle.held.specs.Values.{offered}
 use Rattle.signals.specs.Channels.{movedIn, There}
 use Rattle.state.specs.Step.{dropped}
 

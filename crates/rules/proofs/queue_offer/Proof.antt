@@ -1,5 +1,5 @@
 use borrow.Author.Needs.{needs}
-use Rattle.rules.proofs.Values.{when-open}
+use Rattle.held.proofs.Values.{when-open}
 use Rattle.rules.proofs.queue_offer.Statement.{statement}
 use Rattle.rules.proofs.queue_offer.Tie as tie
 

@@ -1,7 +1,7 @@
 use mathlib.Core.Path.{_∙_}
 use lib.ListN.{getD}
 use borrow.Author.Needs.{needs}
-use Rattle.rules.proofs.Values.{offered-or}
+use Rattle.held.proofs.Values.{offered-or}
 use Rattle.rules.proofs.sink_take.Statement.{statement}
 use Rattle.rules.proofs.sink_take.Tie as tie
 

@@ -1,7 +1,7 @@
 use Prim.Native.Nat.{_+_, _*_}
 use lib.ListN.{getD}
 use borrow.Author.Needs.{needs}
-use Rattle.rules.proofs.Values.{bit-nonzero}
+use Rattle.held.proofs.Values.{bit-nonzero}
 use Rattle.signals.proofs.take_at.Statement.{statement}
 use Rattle.signals.proofs.take_at.Tie as tie
 

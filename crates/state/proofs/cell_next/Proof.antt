@@ -8,7 +8,8 @@ use Rattle.record.specs.Table.{row}
 use Rattle.component.specs.Kind.{kindOf, portOf, A, B, C}
 use Rattle.component.specs.Row.{kindNumber, port}
 use Rattle.component.proofs.ByKind.{last-kind}
-use Rattle.rules.specs.Rules.{componentWith, picksB}
+use Rattle.held.specs.Picks.{picksB}
+use Rattle.rules.specs.Rules.{componentWith}
 use Rattle.state.specs.Step.{cellNext}
 use Rattle.state.proofs.Turn.{source-holds, sink-holds, merge-holds, cell-rest}
 use Rattle.state.proofs.cell_next.Statement.{statement}

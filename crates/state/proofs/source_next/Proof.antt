@@ -4,8 +4,8 @@ use Prim.Native.Nat.{ℕ, _≤_}
 use native.Mathlib.Omega.{arith}
 use lib.ListN.{drop}
 use borrow.Author.Needs.{needs}
-use Rattle.rules.specs.Rules.{offerNumber, bit}
-use Rattle.rules.proofs.Bounds.{unless-le}
+use Rattle.held.specs.Values.{offerNumber, bit}
+use Rattle.held.proofs.Bounds.{unless-le}
 use Rattle.state.proofs.Turn.{set-first}
 use Rattle.state.proofs.source_next.Statement.{statement}
 use Rattle.state.proofs.source_next.Tie as tie

@@ -5,9 +5,10 @@ use Prim.Native.Nat.{ℕ, zero, suc, _≤_}
 use native.Mathlib.Omega.{arith}
 use lib.Dec.{ltb, eqb}
 use borrow.Author.Tests.{lt-ltb}
-use Rattle.rules.specs.Rules.{bit, chosenB, picksB}
-use Rattle.rules.proofs.Values.{bit-nonzero}
-use Rattle.rules.proofs.Bounds.{either-le, offered-le}
+use Rattle.held.specs.Values.{bit}
+use Rattle.held.specs.Picks.{chosenB, picksB}
+use Rattle.held.proofs.Values.{bit-nonzero}
+use Rattle.held.proofs.Bounds.{either-le, offered-le}
 
 chosen-le : (choice a b : ℕ) → chosenB choice a b ≤ 1
 chosen-le choice zero b = omega arith

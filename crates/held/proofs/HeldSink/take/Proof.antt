@@ -1,7 +1,7 @@
 use borrow.Author.Needs.{needs}
-use Rattle.rules.proofs.Values.{offered-bit}
-use Rattle.rules.proofs.HeldSink.take.Statement.{statement}
-use Rattle.rules.proofs.HeldSink.take.Tie as tie
+use Rattle.held.proofs.Values.{offered-bit}
+use Rattle.held.proofs.HeldSink.take.Statement.{statement}
+use Rattle.held.proofs.HeldSink.take.Tie as tie
 
 returns : tie.Need-returns
 returns c = search needs

@@ -3,7 +3,7 @@ use mathlib.Core.Path.{_≡_, refl, ap}
 use mathlib.Core.Bool.{Bool, true, false, not}
 use Prim.Native.Nat.{ℕ, zero, suc}
 use lib.Dec.{eqb, eqb·suc-zero}
-use Rattle.rules.specs.Rules.{bit, unless, offered, when, orElse}
+use Rattle.held.specs.Values.{bit, unless, offered, when, orElse}
 
 pub offered-bit : (b : Bool) → bit b ≡ offered (bit b)
 offered-bit true = refl

@@ -1,6 +1,6 @@
 use borrow.Author.Needs.{needs}
-use Rattle.rules.proofs.HeldSource.offer.Statement.{statement}
-use Rattle.rules.proofs.HeldSource.offer.Tie as tie
+use Rattle.held.proofs.HeldSource.offer.Statement.{statement}
+use Rattle.held.proofs.HeldSource.offer.Tie as tie
 
 enum-told : tie.Need-enum-told
 enum-told c = search needs

@@ -1,8 +1,8 @@
 use mathlib.Core.Path.{sym}
 use borrow.Author.Needs.{needs}
-use Rattle.rules.proofs.Merges.{only-a, only-b, of-both}
-use Rattle.rules.proofs.HeldMerge.picks_b.Statement.{statement}
-use Rattle.rules.proofs.HeldMerge.picks_b.Tie as tie
+use Rattle.held.proofs.Picks.{only-a, only-b, of-both}
+use Rattle.held.proofs.HeldMerge.picks_b.Statement.{statement}
+use Rattle.held.proofs.HeldMerge.picks_b.Tie as tie
 
 enum-told : tie.Need-enum-told
 enum-told c = search needs

@@ -1,6 +1,6 @@
 use borrow.Author.Needs.{needs}
-use Rattle.rules.proofs.HeldMerge.next.Statement.{statement}
-use Rattle.rules.proofs.HeldMerge.next.Tie as tie
+use Rattle.held.proofs.HeldMerge.next.Statement.{statement}
+use Rattle.held.proofs.HeldMerge.next.Tie as tie
 
 returns : tie.Need-returns
 returns c = search needs

@@ -1,7 +1,7 @@
 use native.Mathlib.Omega.{arith}
 use borrow.Author.Needs.{needs}
-use Rattle.rules.proofs.byte_of_offer.Statement.{statement}
-use Rattle.rules.proofs.byte_of_offer.Tie as tie
+use Rattle.held.proofs.byte_of_offer.Statement.{statement}
+use Rattle.held.proofs.byte_of_offer.Tie as tie
 
 enum-known-o : tie.Need-enum-known-o
 enum-known-o c = search needs
