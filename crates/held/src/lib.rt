@@ -90,6 +90,7 @@ impl HeldMerge {
         let held = self.held;
         match a {
             Offer::Colour(_) => match b {
+                // B if it is held, or if nothing is and the choice names it.
                 Offer::Colour(_) => (1 < held) | (held == 0) & (choice != 0),
                 Offer::Nothing => false,
             },
