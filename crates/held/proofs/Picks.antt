@@ -1,13 +1,8 @@
 -- What a merge picks. Assumes nothing.
 use mathlib.Core.Path.{_≡_, refl}
-use mathlib.Core.Bool.{not, _&&_, _||_}
-use Prim.Native.Nat.{ℕ, zero, suc, _≤_}
+use Prim.Native.Nat.{ℕ, zero, suc, _≤_, _<_}
 use native.Mathlib.Omega.{arith}
-use lib.Dec.{ltb, eqb}
-use borrow.Author.Tests.{lt-ltb}
-use Rattle.held.specs.Values.{bit}
 use Rattle.held.specs.Picks.{chosenB, picksB}
-use Rattle.held.proofs.Values.{bit-nonzero}
 use Rattle.held.proofs.Bounds.{either-le, offered-le}
 
 chosen-le : (choice a b : ℕ) → chosenB choice a b ≤ 1
@@ -29,12 +24,18 @@ only-a zero choice a = refl
 only-a (suc zero) choice a = refl
 only-a (suc (suc h)) choice a = refl
 
--- both offered: B if it is held, or if nothing is and the choice names it
-pub of-both : (h choice a b : ℕ) → bit (ltb 1 h || (eqb h 0 && not (eqb choice 0))) ≡ picksB h choice (suc a) (suc b)
+-- B held and offered
+pub held-b : (h choice a b : ℕ) → 1 < h → picksB h choice a (suc b) ≡ 1
 unfolding picksB
-of-both zero choice a b = bit-nonzero choice
-of-both (suc zero) choice a b = refl
-of-both (suc (suc h)) choice a b = rw (lt-ltb 1 (suc (suc h)) (omega arith))
+held-b zero choice a b l = absurd (omega arith)
+held-b (suc zero) choice a b l = absurd (omega arith)
+held-b (suc (suc h)) choice a b l = refl
+
+-- nothing held, A held, B held
+pub by-held : {P : Type 0} (h : ℕ) → (h ≡ 0 → P) → (h ≡ 1 → P) → (1 < h → P) → P
+by-held zero none heldA heldB = none refl
+by-held (suc zero) none heldA heldB = heldA refl
+by-held (suc (suc h)) none heldA heldB = heldB (omega arith)
 
 -- it is 0 or 1
 pub picks-le : (h choice a b : ℕ) → picksB h choice a b ≤ 1

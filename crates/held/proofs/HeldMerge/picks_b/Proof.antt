@@ -1,6 +1,9 @@
 use mathlib.Core.Path.{sym}
+use borrow.Author.Tests.{lt-ltb}
 use borrow.Author.Needs.{needs}
-use Rattle.held.proofs.Picks.{only-a, only-b, of-both}
+use Rattle.held.specs.Picks.{picksB}
+use Rattle.held.proofs.Values.{bit-nonzero}
+use Rattle.held.proofs.Picks.{only-a, only-b, held-b, by-held}
 use Rattle.held.proofs.HeldMerge.picks_b.Statement.{statement}
 use Rattle.held.proofs.HeldMerge.picks_b.Tie as tie
 
@@ -17,7 +20,12 @@ enum-told-4 : tie.Need-enum-told-4
 enum-told-4 c = search needs
 
 returns : tie.Need-returns
-returns c = rw (c .enum-told2 .given .1, c .before .before .enum-told .given .1) (of-both (c .before .before .before .before .args .self .held) (c .before .before .before .before .args .choice) _ _)
+unfolding picksB
+returns c =
+    let z = c .before .before .before .before .args in
+    let a = c .before .before .enum-told .given .1 in
+    let b = c .enum-told2 .given .1 in
+    by-held (z .self .held) (λ q. rw (b, a, q) (bit-nonzero (z .choice))) (λ q. rw (b, a, q)) (λ q. rw (b, a, lt-ltb 1 (z .self .held) q, held-b (z .self .held) (z .choice) _ _ q))
 
 returns-2 : tie.Need-returns-2
 returns-2 c = rw (c .enum-told3 .given .1, c .before .before .enum-told .given .1) (sym (only-a (c .before .before .before .before .args .self .held) (c .before .before .before .before .args .choice) _))
