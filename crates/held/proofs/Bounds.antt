@@ -1,6 +1,6 @@
 -- What the parts of a rule are at most. Assumes nothing.
 use mathlib.Core.Bool.{Bool, true, false}
-use Prim.Native.Nat.{ℕ, zero, suc, _≤_, _<_}
+use Prim.Native.Nat.{ℕ, zero, suc, _≤_}
 use native.Mathlib.Omega.{arith}
 use Rattle.held.specs.Values.{bit, when, unless, offered, orElse, either}
 

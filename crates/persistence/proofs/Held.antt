@@ -1,7 +1,7 @@
 -- What a merge holds is offered: nothing is held at start, and what it holds after a step waited in it. Assumes nothing.
 use mathlib.Core.Path.{_≡_, refl, sym, _∙_}
 use mathlib.Core.List.{List}
-use Prim.Native.Nat.{ℕ, zero, suc, _+_, _*_, _≤_, _<_}
+use Prim.Native.Nat.{ℕ, zero, suc, _+_, _*_, _<_}
 use native.Mathlib.Omega.{arith}
 use lib.ListN.{getD}
 use Rattle.component.specs.Kind.{merge, Port, A, B, C, portUse}

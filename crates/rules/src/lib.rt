@@ -9,7 +9,7 @@ ghost use Rattle.record.specs.Table.{row};
 ghost use Rattle.component.specs.Kind.{fork, join, switch, merge, portOf};
 ghost use Rattle.component.specs.Row.{mapOf, capacity};
 ghost use Rattle.cells.specs.Cells.{cellSize};
-ghost use Rattle.held.specs.Values.{offerNumber, bit, when, unless, offered, orElse};
+ghost use Rattle.held.specs.Values.{offerNumber, bit, when, offered, orElse};
 ghost use Rattle.held.specs.Picks.{picksB};
 ghost use Rattle.rules.specs.Rules.{mapped, toB, componentWith, rule};
 ghost use Rattle.rules.specs.Seen.{seen, Offers, Takes};
