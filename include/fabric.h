@@ -249,7 +249,7 @@ uint64_t fabric_unpack_colours(const uint8_t *file, size_t file_len, const uint8
 uint64_t fabric_unpack_channels(const uint8_t *file, size_t file_len, const uint8_t *table, size_t table_len);
 
 /* Writes the file of a table for C colours and M channels: 4 + 13 bytes a component, at most 1,668. All of the table counts, and
- * its length says how many components there are.
+ * its length says how many components there are. What stood in the file's memory before does not count.
  * Refusals in this order: 4 3 6 7 8 23. */
 uint32_t fabric_pack(uint64_t colours, uint64_t channels, const uint8_t *table, size_t table_len, uint8_t *file, size_t file_len);
 

@@ -45,6 +45,9 @@ pub mod null_space;
 pub mod sparse;
 pub mod sum_basis;
 
+// By which two runs of a comparison are compared.
+pub mod digest;
+
 // Fabrics, states and proposals to try them on.
 pub mod panels;
 pub mod random;

@@ -6,3 +6,4 @@ pub mod Ceilings
 pub mod Hypotheses
 pub mod Promises
 pub mod ManyBlocks
+pub mod RunningSums

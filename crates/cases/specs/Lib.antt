@@ -6,3 +6,4 @@ pub mod HeldMerges
 pub mod EightKinds
 pub mod Ceilings
 pub mod ManyBlocks
+pub mod RunningSums

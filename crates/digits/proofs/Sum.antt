@@ -13,10 +13,10 @@ pub sum-append : (xs ys : List ℕ) → sum (xs ++ ys) ≡ sum xs + sum ys
 sum-append [] ys = sym (zero-add (sum ys))
 sum-append (x ∷ xs) ys = ap (λ (k : ℕ). x + k) (sum-append xs ys) ∙ sym (add-assoc x (sum xs) (sum ys))
 
--- a turn of the loop of `byte_sum`
-pub sum-more : (l : List ℕ) (i t : ℕ) → i < length l → t ≡ sum (take i l) % 256 → (t + getD l i 0) % 256 ≡ sum (take (i + 1) l) % 256
-sum-more l i t h e =
-    rw (add-one, take-suc l i 0 h, sum-append (take i l) (getD l i 0 ∷ []), add-zero, e) (mod-add-mod (sum (take i l)) 256 (getD l i 0))
+-- a turn of the loop of `add_bytes`
+pub sum-more : (c : ℕ) (l : List ℕ) (i t : ℕ) → i < length l → t ≡ (c + sum (take i l)) % 256 → (t + getD l i 0) % 256 ≡ (c + sum (take (i + 1) l)) % 256
+sum-more c l i t h e =
+    rw (add-one, take-suc l i 0 h, sum-append (take i l) (getD l i 0 ∷ []), add-zero, e, ← add-assoc c (sum (take i l)) (getD l i 0)) (mod-add-mod (c + sum (take i l)) 256 (getD l i 0))
 
 -- the negated sum brings it to 0, and no other byte does
 pub to-zero : (s : ℕ) → (s + negated s) % 256 ≡ 0

@@ -1,7 +1,7 @@
 // Numbers as packed digits, most significant first, byte sums, and copies.
 ghost use mathlib.Core.Path.{_≡_};
 ghost use Prim.Native.Nat.{_+_, _≤_, _<_, _%_};
-ghost use lib.ListN.{length};
+ghost use lib.ListN.{length, take};
 ghost use lib.Seq.{paste};
 ghost use Rattle.digits.specs.Packed.{joined, bytes};
 ghost use Rattle.digits.specs.Sum.{sum, negated};
@@ -33,17 +33,25 @@ pub fn word(s: &[u8], at: usize, n: usize) -> u64
     acc
 }
 
+// A byte sum, carried on over the first n bytes of a slice, wrapping at 256.
+pub fn add_bytes(carried: u8, s: &[u8], n: usize) -> u8
+    requires { ⌜ n ≤ length (now s) ⌝ }
+    ensures { λ r. ⌜ r ≡ (carried + sum (take n (now (s .entry)))) % 256 ⌝ }
+{
+    let mut total = carried;
+    let mut at: usize = 0;
+    while at < n {
+        total = std::num::wrapping_add_u8(total, s[at]);
+        at += 1;
+    }
+    total
+}
+
 // The sum of all bytes, wrapping at 256.
 pub fn byte_sum(s: &[u8]) -> u8
     ensures { λ r. ⌜ r ≡ sum (now (s .entry)) % 256 ⌝ }
 {
-    let mut total: u8 = 0;
-    let mut i: usize = 0;
-    while i < s.len() {
-        total = std::num::wrapping_add_u8(total, s[i]);
-        i += 1;
-    }
-    total
+    add_bytes(0, s, s.len())
 }
 
 // The byte that brings a byte sum to 0.

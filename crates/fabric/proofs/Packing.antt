@@ -1,17 +1,19 @@
 -- What pack writes. Assumes nothing.
 use mathlib.Core.Path.{_≡_, refl, ap, ap₂, sym, _∙_}
 use Prim.Native.Nat.{ℕ, _+_, _-_, _*_, _%_, _≤_, _<_}
-use native.Mathlib.Nat.{mod-mod}
+use native.Mathlib.Nat.{add-zero, mod-mod, le-refl}
 use native.Mathlib.Omega.{arith}
 use mathlib.Core.List.{List, [], _∷_, _++_, append-assoc}
 use lib.ListN.{length, getD, take, drop, length-append}
-use lib.Seq.{take-at, drop-at, length-take-le}
+use lib.Seq.{take-at, drop-at, drop-cons, drop-drop, append-snoc, length-take-le}
 use Rattle.digits.specs.Packed.{joined, fields, bytes}
 use Rattle.digits.specs.Sum.{sum, negated}
 use Rattle.digits.proofs.Packed.{length-fields}
+use Rattle.digits.proofs.Sum.{sum-append}
 use Rattle.record.specs.Table.{records}
-use Rattle.record.specs.Sizes.{fileSize, headerSize}
-use Rattle.record.proofs.Table.{length-records}
+use Rattle.record.specs.Sizes.{fileSize, headerSize, recordSize}
+use Rattle.carried.specs.Carried.{checkPlace, carriedSum}
+use Rattle.carried.proofs.Carried.{carried-in}
 use Rattle.reader.specs.File.{headerWidths}
 use Rattle.fabric.specs.PackedFile.{headerBytes, packedFile}
 
@@ -28,43 +30,83 @@ pub header-bytes : (c n m k : ℕ) → c < 8 → n < 256 → m < 256 → k < 256
 unfolding headerBytes
 header-bytes c n m k hc hn hm hk = four _ c n m k hc hn hm hk (header-number c n m k hc hn hm hk)
 
--- ---- four stores
-pub elements-4 : (h : List ℕ) → length h ≡ headerSize → h ≡ getD h 0 0 ∷ getD h 1 0 ∷ getD h 2 0 ∷ getD h 3 0 ∷ []
-elements-4 [] e = absurd (omega arith)
-elements-4 (a ∷ []) e = absurd (omega arith)
-elements-4 (a ∷ b ∷ []) e = absurd (omega arith)
-elements-4 (a ∷ b ∷ c ∷ []) e = absurd (omega arith)
-elements-4 (a ∷ b ∷ c ∷ d ∷ []) e = refl
-elements-4 (a ∷ b ∷ c ∷ d ∷ x ∷ l) e = absurd (omega arith)
-
--- ---- the whole file
 pub length-header : (C N M k : ℕ) → length (headerBytes C N M k) ≡ headerSize
 unfolding headerBytes
 length-header C N M k = length-fields (bytes headerSize) (joined headerWidths (1 ∷ (C - 1) ∷ 0 ∷ N ∷ M ∷ k ∷ []) 0)
 
-module _ (C M N : ℕ) (t o : List ℕ) (h : headerSize ≤ length o) where
-  rest : List ℕ
-  rest = records t N ++ drop (fileSize N) o
+-- bytes 0 to 2, whatever the check byte is
+module _ (c n m : ℕ) (hc : c < 8) (hn : n < 256) (hm : m < 256) where
+  pub header-front : (16 + c * 2) ∷ n ∷ m ∷ [] ≡ take checkPlace (headerBytes (c + 1) n m 0)
+  header-front = ap (take checkPlace) (header-bytes c n m 0 hc hn hm (omega arith))
 
-  behind : (o₁ : List ℕ) → o₁ ≡ take headerSize o ++ records t N ++ drop (fileSize N) o → drop headerSize o₁ ≡ rest
-  unfolding rest
-  behind o₁ e = rw (e, append-assoc (take headerSize o) (records t N) (drop (fileSize N) o)) (drop-at (take headerSize o) (records t N ++ drop (fileSize N) o) headerSize (length-take-le headerSize o h))
+  header-whole : (k : ℕ) → k < 256 → take checkPlace (headerBytes (c + 1) n m 0) ++ k ∷ [] ≡ headerBytes (c + 1) n m k
+  header-whole k hk = ap (λ (l : List ℕ). l ++ k ∷ []) (sym header-front) ∙ header-bytes c n m k hc hn hm hk
 
-  front : (k : ℕ) → take (fileSize N) (headerBytes C N M k ++ rest) ≡ headerBytes C N M k ++ records t N
-  unfolding rest
-  front k =
-      rw (← append-assoc (headerBytes C N M k) (records t N) (drop (fileSize N) o))
-      (take-at (headerBytes C N M k ++ records t N) (drop (fileSize N) o) (fileSize N)
-      (length-append (headerBytes C N M k) (records t N) ∙ omega (arith, length-header C N M k, length-records t N)))
+-- ---- the whole file: header bytes 0 to 2, the check byte, the records
+module _ (c M N : ℕ) (t : List ℕ) (hc : c < 8) (hN : N < 256) (hM : M < 256) where
+  abbrev pub header : ℕ → List ℕ
+  header check = headerBytes (c + 1) N M check
 
-  pub file-done : (o₁ o₂ o₃ : List ℕ) (s : ℕ) → o₁ ≡ take headerSize o ++ records t N ++ drop (fileSize N) o
-      → o₂ ≡ headerBytes C N M 0 ++ drop headerSize o₁ → s ≡ sum (take (fileSize N) o₂) % 256
-      → o₃ ≡ headerBytes C N M (negated s) ++ drop headerSize o₂ → o₃ ≡ packedFile C M t N ++ drop (fileSize N) o
-  unfolding packedFile rest
-  file-done o₁ o₂ o₃ s e₁ e₂ es e₃ =
-      let f₂ : o₂ ≡ headerBytes C N M 0 ++ rest = e₂ ∙ ap (λ (l : List ℕ). headerBytes C N M 0 ++ l) (behind o₁ e₁) in
-      let fs : s ≡ sum (headerBytes C N M 0 ++ records t N) % 256 = es ∙ ap (λ (l : List ℕ). sum l % 256) (ap (take (fileSize N)) f₂ ∙ front 0) in
-      let n : negated s ≡ negated (sum (headerBytes C N M 0 ++ records t N)) =
-      ap (λ (x : ℕ). (256 - x % 256) % 256) fs ∙ ap (λ (x : ℕ). (256 - x) % 256) (mod-mod (sum (headerBytes C N M 0 ++ records t N)) 256) in
-      e₃ ∙ ap₂ (λ (k : ℕ) (l : List ℕ). headerBytes C N M k ++ l) n (ap (drop headerSize) f₂ ∙ drop-at (headerBytes C N M 0) rest headerSize (length-header C N M 0))
-      ∙ sym (append-assoc (headerBytes C N M (negated (sum (headerBytes C N M 0 ++ records t N)))) (records t N) (drop (fileSize N) o))
+  abbrev pub front : List ℕ
+  front = take checkPlace (header 0)
+
+  abbrev pub checkByte : ℕ
+  checkByte = negated (sum (front ++ records t N))
+
+  pub three : length front ≡ checkPlace
+  three = length-take-le checkPlace (header 0) (omega (arith, length-header (c + 1) N M 0))
+
+  -- a 0 in the check byte's place adds nothing
+  sum-front : sum (header 0 ++ records t N) ≡ sum (front ++ records t N)
+  sum-front =
+      ap (λ (l : List ℕ). sum (l ++ records t N)) (sym (header-whole c N M hc hN hM 0 (omega arith)))
+      ∙ sum-append (front ++ 0 ∷ []) (records t N)
+      ∙ ap (λ (x : ℕ). x + sum (records t N)) (sum-append front (0 ∷ []) ∙ add-zero (sum front))
+      ∙ sym (sum-append front (records t N))
+
+  pub file-parts : (rest : List ℕ) → packedFile (c + 1) M t N ++ rest ≡ front ++ checkByte ∷ (records t N ++ rest)
+  unfolding packedFile
+  file-parts rest =
+      append-assoc (header (negated (sum (header 0 ++ records t N)))) (records t N) rest
+      ∙ ap (λ (x : ℕ). header (negated x) ++ (records t N ++ rest)) sum-front
+      ∙ ap (λ (l : List ℕ). l ++ (records t N ++ rest)) (sym (header-whole c N M hc hN hM checkByte (omega arith)))
+      ∙ append-snoc front checkByte (records t N ++ rest)
+
+  -- ---- what pack lays: o₁ has header bytes 0 to 2, o₂ the records too, and s is the sum carried
+  module _ (o o₁ o₂ : List ℕ) (s : ℕ) (h : fileSize N ≤ length o) (e₁ : o₁ ≡ front ++ drop checkPlace o) (e₂ : o₂ ≡ take headerSize o₁ ++ records t N ++ drop (fileSize N) o₁) (es : s ≡ carriedSum o₂ N) where
+    -- the byte that stood in the check byte's place
+    abbrev old : ℕ
+    old = getD o checkPlace 0
+
+    abbrev rest : List ℕ
+    rest = records t N ++ drop (fileSize N) o
+
+    head-long : length (front ++ old ∷ []) ≡ headerSize
+    head-long = length-append front (old ∷ []) ∙ rw three
+
+    split : o₁ ≡ (front ++ old ∷ []) ++ drop headerSize o
+    split = e₁ ∙ ap (λ (l : List ℕ). front ++ l) (drop-cons o checkPlace 0 (omega arith)) ∙ sym (append-snoc front old (drop headerSize o))
+
+    ends : drop (fileSize N) o₁ ≡ drop (fileSize N) o
+    ends =
+        sym (drop-drop (recordSize * N) headerSize o₁)
+        ∙ ap (drop (recordSize * N)) (ap (drop headerSize) split ∙ drop-at (front ++ old ∷ []) (drop headerSize o) headerSize head-long)
+        ∙ drop-drop (recordSize * N) headerSize o
+
+    laid-parts : o₂ ≡ front ++ old ∷ rest
+    laid-parts =
+        e₂
+        ∙ ap₂ (λ (p q : List ℕ). p ++ records t N ++ q) (ap (take headerSize) split ∙ take-at (front ++ old ∷ []) (drop headerSize o) headerSize head-long) ends
+        ∙ append-assoc (front ++ old ∷ []) (records t N) (drop (fileSize N) o)
+        ∙ append-snoc front old rest
+
+    total : negated s ≡ checkByte
+    total =
+        ap negated (es ∙ ap (λ (l : List ℕ). carriedSum l N) laid-parts ∙ carried-in front old t (drop (fileSize N) o) N N three (le-refl N))
+        ∙ ap (λ (x : ℕ). (256 - x) % 256) (mod-mod (sum (front ++ records t N)) 256)
+
+    pub file-done : (o₃ : List ℕ) → o₃ ≡ take checkPlace o₂ ++ negated s ∷ drop headerSize o₂ → o₃ ≡ packedFile (c + 1) M t N ++ drop (fileSize N) o
+    file-done o₃ e₃ =
+        let begins : take checkPlace o₂ ≡ front = ap (take checkPlace) laid-parts ∙ take-at front (old ∷ rest) checkPlace three in
+        let behind : drop headerSize o₂ ≡ rest = ap (drop headerSize) (laid-parts ∙ sym (append-snoc front old rest)) ∙ drop-at (front ++ old ∷ []) rest headerSize head-long in
+        e₃ ∙ rw (begins, behind, total) (sym (file-parts (drop (fileSize N) o)))

@@ -5,12 +5,14 @@ ghost use mathlib.Core.List.{_++_};
 ghost use lib.ListN.{length, take, drop};
 ghost use Rattle.refusals.specs.Room.{roomFor};
 ghost use Rattle.refusals.specs.declared.Verdict.the-variants.{Accepted};
-ghost use Rattle.record.specs.Sizes.{fileSize, rowSize, headerSize};
+ghost use Rattle.record.specs.Sizes.{fileSize, rowSize};
+ghost use Rattle.carried.specs.Carried.{checkPlace};
 ghost use Rattle.component.specs.Limits.{mostColours, mostComponents};
 ghost use Rattle.reader.specs.Reading.{readAs};
 ghost use Rattle.fabric.specs.PackedFile.{headerBytes, packedFile};
 ghost use Rattle.fabric.specs.Calls.{unpacked, unpackedTable, packed, packedInto, recordStart, recordLength};
 ghost use Rattle.fabric.specs.Stages.{tableVerdict};
+use carried::CHECK_PLACE;
 use component::MOST_CHANNELS;
 use component::MOST_COLOURS;
 use component::MOST_COMPONENTS;
@@ -85,39 +87,22 @@ pub fn record(file: &[u8], k: usize) -> &[u8]
     }
 }
 
-// The header's 4 bytes, of which c is one less than the count of colours.
-fn header_of(c: u8, components: u8, channels: u8, check: u8) -> [u8; HEADER_SIZE]
+// Header bytes 0 to 2, where c is one less than the count of colours.
+fn header_of(c: u8, components: u8, channels: u8) -> [u8; CHECK_PLACE]
     requires { ⌜ c < 8 ⌝ }
-    ensures { λ r. ⌜ r ≡ headerBytes (c + 1) components channels check ⌝ }
+    ensures { λ r. ⌜ r ≡ take checkPlace (headerBytes (c + 1) components channels 0) ⌝ }
 {
-    [16 + c * 2, components, channels, check]
+    [16 + c * 2, components, channels]
 }
 
-// Writes the 4 bytes at the front.
-fn put_header(out: &mut [u8], h: [u8; HEADER_SIZE])
-    requires { ⌜ headerSize ≤ length (now out) ⌝ }
-    ensures { λ _. ⌜ now (out .exit) ≡ h ++ drop headerSize (now (out .entry)) ⌝ }
-{
-    out[0] = h[0];
-    out[1] = h[1];
-    out[2] = h[2];
-    out[3] = h[3];
-}
-
-// Writes the whole file: records, the header with no check byte, and the header again with it.
+// Lays the whole file: header bytes 0 to 2, the records, and then the check byte.
 fn put_file(c: u8, channels: u8, table: &[u8], components: u8, out: &mut [u8])
     requires { ⌜ (c < 8) × (rowSize * components ≤ length (now table)) × (fileSize components ≤ length (now out)) ⌝ }
     ensures { λ _. ⌜ now (out .exit) ≡ packedFile (c + 1) channels (now (table .entry)) components ++ drop (fileSize components) (now (out .entry)) ⌝ }
 {
-    let n = components as usize;
-    record::put_records(table, n, &mut *out);
-    put_header(&mut *out, header_of(c, components, channels, 0));
-    let end = HEADER_SIZE + RECORD_SIZE * n;
-    let s = digits::byte_sum(&out[..end]);
-    put_header(
-        &mut *out,
-        header_of(c, components, channels, digits::negate(s)),
-    );
+    let start = carried::put_header(&mut *out, header_of(c, components, channels));
+    let total = carried::put_records(table, components as usize, &mut *out, start);
+    carried::put_check(&mut *out, total);
 }
 
 // The refusals 6 to 8 of a table of n rows.

@@ -45,6 +45,19 @@ module _ (w : ℕ) (part : ℕ → List ℕ) (long : (k : ℕ) → length (part 
           let r : length (whole n) ≡ w * k = length-parts n ∙ ap (λ (x : ℕ). w * x) (sym e) in
           rw (drop-at (whole n) (part n) (w * k) r, e) (take-all w (part n) (le-of-eq (long n)))
 
+  -- the first k parts of the whole
+  pub parts-front : (n k : ℕ) → k ≤ n → take (w * k) (whole n) ≡ whole k
+  parts-front zero k h =
+      let e : k ≡ 0 = omega arith in
+      rw e (take-all (w * 0) (whole 0) (le-of-eq (length-parts 0)))
+  parts-front (suc n) k h = go (λ l. parts-front n k l) (decLt k (suc n))
+    where
+      go : (k ≤ n → take (w * k) (whole n) ≡ whole k) → Dec (k < suc n) → take (w * k) (whole (suc n)) ≡ whole k
+      go again (yes l) = rw (more n, take-append-le (w * k) (whole n) (part n) (rw (length-parts n) (mul-le-mul-left w (omega arith)))) (again (omega arith))
+      go again (no l) =
+          let e : k ≡ suc n = omega arith in
+          rw e (take-all (w * suc n) (whole (suc n)) (le-of-eq (length-parts (suc n))))
+
   -- a turn of the loop that writes them behind what stands in front
   pub parts-more : (front rest : List ℕ) (k : ℕ) (b : List ℕ) → b ≡ part k
       → paste (front ++ whole k ++ drop (length front + w * k) rest) (length front + w * k) b w ≡ front ++ whole (suc k) ++ drop (length front + w * suc k) rest
@@ -107,6 +120,9 @@ module _ (t : List ℕ) where
 
   pub record-in : (n k : ℕ) → k < n → take recordSize (drop (recordSize * k) (records t n)) ≡ recordBytes (row t k)
   record-in = part-in recordSize (λ k. recordBytes (row t k)) (λ k. length-record (row t k)) (records t) records-zero records-suc
+
+  pub records-front : (n k : ℕ) → k ≤ n → take (recordSize * k) (records t n) ≡ records t k
+  records-front = parts-front recordSize (λ k. recordBytes (row t k)) (λ k. length-record (row t k)) (records t) records-zero records-suc
 
   pub records-none : (o : List ℕ) → o ≡ take headerSize o ++ records t 0 ++ drop (4 + recordSize * 0) o
   unfolding records

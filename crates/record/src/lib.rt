@@ -3,12 +3,12 @@ ghost use mathlib.Core.Path.{_≡_};
 ghost use Prim.Native.Nat.{_+_, _*_, _≤_};
 ghost use mathlib.Core.List.{[], _∷_, _++_};
 ghost use mathlib.Core.Bool.{not};
-ghost use lib.ListN.{length, take, drop, replicate};
+ghost use lib.ListN.{length, drop, replicate};
 ghost use lib.Dec.{eqb};
 ghost use Rattle.digits.specs.Packed.{joined, fields, bytes};
 ghost use Rattle.record.specs.Record.{upperWidths, lowerWidths, recordRow, recordPad, recordBytes};
-ghost use Rattle.record.specs.Table.{row, openTable, records};
-ghost use Rattle.record.specs.Sizes.{headerSize, recordSize, fileSize, rowSize};
+ghost use Rattle.record.specs.Table.{row, openTable};
+ghost use Rattle.record.specs.Sizes.{recordSize, fileSize, rowSize};
 
 // The header, a record and a row, in bytes.
 pub const HEADER_SIZE: usize = 4;
@@ -159,19 +159,6 @@ pub fn put_rows(file: &[u8], n: usize, table: &mut [u8])
     while k < n {
         let f = record_row(file, HEADER_SIZE + RECORD_SIZE * k);
         digits::copy(&f, ROW_SIZE, &mut *table, ROW_SIZE * k);
-        k += 1;
-    }
-}
-
-// Writes the records of n rows behind the header's 4 bytes.
-pub fn put_records(table: &[u8], n: usize, out: &mut [u8])
-    requires { ⌜ (rowSize * n ≤ length (now table)) × (fileSize n ≤ length (now out)) ⌝ }
-    ensures { λ _. ⌜ now (out .exit) ≡ take headerSize (now (out .entry)) ++ records (now (table .entry)) n ++ drop (fileSize n) (now (out .entry)) ⌝ }
-{
-    let mut k: usize = 0;
-    while k < n {
-        let b = record_bytes(row_at(table, k));
-        digits::copy(&b, RECORD_SIZE, &mut *out, HEADER_SIZE + RECORD_SIZE * k);
         k += 1;
     }
 }

@@ -5,6 +5,7 @@ mod check_many;
 mod choices;
 mod circles;
 mod credit_loop;
+mod digest;
 mod each_dependence;
 mod equations;
 mod held_merges;

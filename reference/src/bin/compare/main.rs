@@ -35,6 +35,7 @@ mod library_side;
 mod list;
 mod merge_cases;
 mod options;
+mod packs;
 mod panel_cases;
 mod random_calls;
 mod random_cases;
@@ -59,9 +60,9 @@ use options::{Options, USAGE};
 use random_cases::random_case;
 use trial::Trial;
 
-/// How often each number of each call must be reached, how many blocks must be judged in each way,
-/// how many states refused because of a merge, and how many accepted sums, ceilings and signals must
-/// be followed through a list of calls.
+/// How often each number of each call must be reached, how many tables of each sort must be packed,
+/// how many blocks judged in each way, how many states refused because of a merge, and how many
+/// accepted sums, ceilings and signals must be followed through a list of calls.
 const LEAST: u64 = 1000;
 
 fn main() -> ExitCode {
@@ -123,6 +124,7 @@ fn compare(options: &Options) -> ExitCode {
         "{number} cases, {} compared calls, {seconds:.1} s",
         trial.counts.total()
     );
+    println!("{}", trial.packs);
     println!("{}", trial.followed);
     println!("{}", trial.blocks);
     println!("{}", trial.bad_merges);
@@ -136,6 +138,8 @@ fn too_few(trial: &Trial) -> Vec<String> {
     let mut lines: Vec<String> = seldom
         .map(|(call, number, count)| format!("{call} came to number {number}: {count} times"))
         .collect();
+    let too_few = trial.packs.too_few(LEAST);
+    lines.extend(too_few.map(|(what, count)| format!("packed {what}: {count}")));
     let seldom = trial.followed.too_seldom(LEAST).into_iter();
     lines.extend(seldom.map(|(what, count)| format!("{what} followed through a list: {count}")));
     let too_few = trial.blocks.too_few(LEAST);

@@ -9,6 +9,7 @@ use crate::difference::{hex, same, same_bytes, Difference};
 use crate::followed::Followed;
 use crate::lent_memory::LentMemory;
 use crate::list::List;
+use crate::packs::Packs;
 use crate::{library_side, second_side};
 
 /// At least as much as any case lends in one piece.
@@ -28,6 +29,7 @@ pub const RESULT: usize = 3;
 pub struct Trial {
     pub parts: [LentMemory; PARTS],
     pub counts: Counts,
+    pub packs: Packs,
     pub followed: Followed,
     pub blocks: BlockCounts,
     pub bad_merges: BadMerges,
@@ -38,6 +40,7 @@ impl Trial {
         Trial {
             parts: std::array::from_fn(|_| LentMemory::new(ROOM)),
             counts: Counts::new(),
+            packs: Packs::default(),
             followed: Followed::default(),
             blocks: BlockCounts::default(),
             bad_merges: BadMerges::default(),
@@ -110,7 +113,13 @@ impl Trial {
         let number = library_side::call(call, &mut self.parts);
         same("number", number, second.number)?;
         self.same_memory("memory after the call", &after)?;
-        Ok(Answer { number, ..library })
+        let answer = Answer { number, ..library };
+        if let Call::Pack { .. } = call {
+            let memory = self.parts[RESULT].bytes();
+            self.packs
+                .add(&answer, &before[FABRIC], &before[RESULT], memory);
+        }
+        Ok(answer)
     }
 
     /// The library's answer, without the second program.
