@@ -5,7 +5,6 @@ use std::fmt;
 const START: u64 = 0xCBF2_9CE4_8422_2325;
 const FACTOR: u64 = 0x0000_0100_0000_01B3;
 
-#[derive(Clone, Copy, PartialEq, Eq, Debug)]
 pub struct Digest(u64);
 
 impl Digest {

@@ -45,7 +45,7 @@ pub mod null_space;
 pub mod sparse;
 pub mod sum_basis;
 
-// By which two runs of a comparison are compared.
+// For comparing two runs.
 pub mod digest;
 
 // Fabrics, states and proposals to try them on.

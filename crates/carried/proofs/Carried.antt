@@ -37,15 +37,15 @@ module _ (o : List ℕ) (k : ℕ) (b : List ℕ) (h : fileSize k + recordSize �
   laid-more =
       let long : length (take (fileSize k) o) ≡ fileSize k = length-take-le (fileSize k) o (omega arith) in
       let e : fileSize (k + 1) ≡ fileSize k + recordSize = omega arith in
-      let front : take checkPlace (paste o (fileSize k) b recordSize) ≡ take checkPlace o =
+      let front-stays : take checkPlace (paste o (fileSize k) b recordSize) ≡ take checkPlace o =
       rw (
         take-append-le checkPlace (take (fileSize k) o ++ take recordSize b) (drop (fileSize k + recordSize) o) (rw (length-append (take (fileSize k) o) (take recordSize b)) (omega arith)),
         take-append-le checkPlace (take (fileSize k) o) (take recordSize b) (omega arith),
       )
       (take-take checkPlace (fileSize k) o (omega arith)) in
-      let rest : drop headerSize (take (fileSize (k + 1)) (paste o (fileSize k) b recordSize)) ≡ drop headerSize (take (fileSize k) o) ++ take recordSize b =
+      let rest-longer : drop headerSize (take (fileSize (k + 1)) (paste o (fileSize k) b recordSize)) ≡ drop headerSize (take (fileSize k) o) ++ take recordSize b =
       rw (e, take-paste o (fileSize k) b recordSize (omega arith) l) (drop-append-le headerSize (take (fileSize k) o) (take recordSize b) (omega arith)) in
-      ap₂ _++_ front rest ∙ sym (append-assoc (take checkPlace o) (drop headerSize (take (fileSize k) o)) (take recordSize b))
+      ap₂ _++_ front-stays rest-longer ∙ sym (append-assoc (take checkPlace o) (drop headerSize (take (fileSize k) o)) (take recordSize b))
 
   pub carried-more : (s r : ℕ) → s ≡ carriedSum o k → r ≡ (s + sum (take recordSize b)) % 256 → r ≡ carriedSum (paste o (fileSize k) b recordSize) (k + 1)
   unfolding carriedSum

@@ -1,4 +1,4 @@
--- The byte sum that pack carries as it lays a file down: header, records in order, and the check byte last.
+-- The byte sum that pack carries as it lays a file down: header bytes 0 to 2, the records in order, and last the check byte.
 use Prim.Native.Nat.{ℕ, _%_}
 use mathlib.Core.List.{List, _++_}
 use lib.ListN.{take, drop}

@@ -1,4 +1,4 @@
-// A file laid down from front to back, its byte sum carried along: header bytes 0 to 2, the records, and last the check byte.
+// A file laid down piece by piece, its byte sum carried along: header bytes 0 to 2, the records, and last the check byte.
 ghost use mathlib.Core.Path.{_≡_};
 ghost use Prim.Native.Nat.{_+_, _*_, _≤_};
 ghost use mathlib.Core.List.{_∷_, _++_};

@@ -11,8 +11,8 @@ use Rattle.carried.specs.Carried.{checkPlace, carriedSum}
 use Rattle.fabric.specs.PackedFile.{headerBytes}
 use Rattle.fabric.specs.Calls.{packed, packedInto}
 
--- For every accepted table, in the memory that pack leaves: the sum carried after k records is that of header bytes 0 to 2 and the records of the first k rows, and the
--- check byte is the negation of the sum carried after the last one.
+-- For every accepted table, in the memory that pack leaves: the sum carried after k records is that of header bytes 0 to 2 and the records of the first k rows, wrapping at
+-- 256, and the check byte is the negation of the sum carried after the last one.
 abbrev pub RunningSum : Type 0
 RunningSum = (colours channels : ℕ) (table memory : List ℕ) → packed colours channels table (length memory) ≡ Accepted
     → let n : ℕ = length table / rowSize in

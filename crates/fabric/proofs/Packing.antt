@@ -78,8 +78,8 @@ module _ (c M N : ℕ) (t : List ℕ) (hc : c < 8) (hN : N < 256) (hM : M < 256)
     abbrev old : ℕ
     old = getD o checkPlace 0
 
-    abbrev rest : List ℕ
-    rest = records t N ++ drop (fileSize N) o
+    abbrev behind : List ℕ
+    behind = records t N ++ drop (fileSize N) o
 
     head-long : length (front ++ old ∷ []) ≡ headerSize
     head-long = length-append front (old ∷ []) ∙ rw three
@@ -93,20 +93,20 @@ module _ (c M N : ℕ) (t : List ℕ) (hc : c < 8) (hN : N < 256) (hM : M < 256)
         ∙ ap (drop (recordSize * N)) (ap (drop headerSize) split ∙ drop-at (front ++ old ∷ []) (drop headerSize o) headerSize head-long)
         ∙ drop-drop (recordSize * N) headerSize o
 
-    laid-parts : o₂ ≡ front ++ old ∷ rest
+    laid-parts : o₂ ≡ front ++ old ∷ behind
     laid-parts =
         e₂
         ∙ ap₂ (λ (p q : List ℕ). p ++ records t N ++ q) (ap (take headerSize) split ∙ take-at (front ++ old ∷ []) (drop headerSize o) headerSize head-long) ends
         ∙ append-assoc (front ++ old ∷ []) (records t N) (drop (fileSize N) o)
-        ∙ append-snoc front old rest
+        ∙ append-snoc front old behind
 
-    total : negated s ≡ checkByte
-    total =
+    check-right : negated s ≡ checkByte
+    check-right =
         ap negated (es ∙ ap (λ (l : List ℕ). carriedSum l N) laid-parts ∙ carried-in front old t (drop (fileSize N) o) N N three (le-refl N))
         ∙ ap (λ (x : ℕ). (256 - x) % 256) (mod-mod (sum (front ++ records t N)) 256)
 
     pub file-done : (o₃ : List ℕ) → o₃ ≡ take checkPlace o₂ ++ negated s ∷ drop headerSize o₂ → o₃ ≡ packedFile (c + 1) M t N ++ drop (fileSize N) o
     file-done o₃ e₃ =
-        let begins : take checkPlace o₂ ≡ front = ap (take checkPlace) laid-parts ∙ take-at front (old ∷ rest) checkPlace three in
-        let behind : drop headerSize o₂ ≡ rest = ap (drop headerSize) (laid-parts ∙ sym (append-snoc front old rest)) ∙ drop-at (front ++ old ∷ []) rest headerSize head-long in
-        e₃ ∙ rw (begins, behind, total) (sym (file-parts (drop (fileSize N) o)))
+        let begins-so : take checkPlace o₂ ≡ front = ap (take checkPlace) laid-parts ∙ take-at front (old ∷ behind) checkPlace three in
+        let ends-so : drop headerSize o₂ ≡ behind = ap (drop headerSize) (laid-parts ∙ sym (append-snoc front old behind)) ∙ drop-at (front ++ old ∷ []) behind headerSize head-long in
+        e₃ ∙ rw (begins-so, ends-so, check-right) (sym (file-parts (drop (fileSize N) o)))

@@ -15,11 +15,13 @@ use crate::ceiling_cases::ceiling_cases;
 use crate::check_many_cases::check_many_cases;
 use crate::credit_loop_cases::credit_loop_cases;
 use crate::merge_cases::merge_cases;
+use crate::pack_cases::pack_cases;
 use crate::panel_cases::panel_cases;
 use crate::random_lists::long_run;
 
 pub fn fixed_cases() -> Vec<Case> {
     let mut cases = file_cases();
+    cases.extend(pack_cases());
     cases.extend(credit_loop_cases());
     cases.extend(ceiling_cases());
     cases.extend(check_many_cases());

@@ -35,6 +35,7 @@ mod library_side;
 mod list;
 mod merge_cases;
 mod options;
+mod pack_cases;
 mod packs;
 mod panel_cases;
 mod random_calls;
