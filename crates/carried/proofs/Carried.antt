@@ -53,24 +53,26 @@ module _ (o : List ℕ) (k : ℕ) (b : List ℕ) (h : fileSize k + recordSize �
       er ∙ ap (λ (x : ℕ). (x + sum (take recordSize b)) % 256) es ∙ mod-add-mod (sum (laid o k)) 256 (sum (take recordSize b))
       ∙ ap (λ (x : ℕ). x % 256) (sym (sum-append (laid o k) (take recordSize b)) ∙ ap sum (sym laid-more))
 
+-- ---- the header: bytes 0 to 2, and the check byte
+pub header-long : (front : List ℕ) (check : ℕ) → length front ≡ checkPlace → length (front ++ check ∷ []) ≡ headerSize
+header-long front check three = length-append front (check ∷ []) ∙ rw three
+
 -- ---- in a file of n records: header bytes 0 to 2 and the first k records, whatever the check byte is
 module _ (front : List ℕ) (check : ℕ) (t rest : List ℕ) (n k : ℕ) (three : length front ≡ checkPlace) (h : k ≤ n) where
-  abbrev head : List ℕ
-  head = front ++ check ∷ []
-
-  four : length head ≡ headerSize
-  four = length-append front (check ∷ []) ∙ rw three
+  abbrev header : List ℕ
+  header = front ++ check ∷ []
 
   first-records : take (recordSize * k) (records t n ++ rest) ≡ records t k
   first-records = take-append-le (recordSize * k) (records t n) rest (rw (length-records t n) (omega arith)) ∙ records-front t n k h
 
   pub laid-in : laid (front ++ check ∷ (records t n ++ rest)) k ≡ front ++ records t k
   laid-in =
-      let file : List ℕ = head ++ (records t n ++ rest) in
-      let up-to : take (fileSize k) file ≡ head ++ records t k =
-      subst (λ (m : ℕ). take (m + recordSize * k) file ≡ head ++ records t k) four (take-append-add head (records t n ++ rest) (recordSize * k) ∙ ap (λ (l : List ℕ). head ++ l) first-records) in
+      let file : List ℕ = header ++ (records t n ++ rest) in
+      let four : length header ≡ headerSize = header-long front check three in
+      let up-to : take (fileSize k) file ≡ header ++ records t k =
+      subst (λ (m : ℕ). take (m + recordSize * k) file ≡ header ++ records t k) four (take-append-add header (records t n ++ rest) (recordSize * k) ∙ ap (λ (l : List ℕ). header ++ l) first-records) in
       ap₂ _++_ (take-at front (check ∷ (records t n ++ rest)) checkPlace three)
-      (ap (λ (l : List ℕ). drop headerSize (take (fileSize k) l)) (sym (append-snoc front check (records t n ++ rest))) ∙ ap (drop headerSize) up-to ∙ drop-at head (records t k) headerSize four)
+      (ap (λ (l : List ℕ). drop headerSize (take (fileSize k) l)) (sym (append-snoc front check (records t n ++ rest))) ∙ ap (drop headerSize) up-to ∙ drop-at header (records t k) headerSize four)
 
   pub carried-in : carriedSum (front ++ check ∷ (records t n ++ rest)) k ≡ sum (front ++ records t k) % 256
   unfolding carriedSum

@@ -18,6 +18,9 @@ pub sum-more : (c : ℕ) (l : List ℕ) (i t : ℕ) → i < length l → t ≡ (
 sum-more c l i t h e =
     rw (add-one, take-suc l i 0 h, sum-append (take i l) (getD l i 0 ∷ []), add-zero, e, ← add-assoc c (sum (take i l)) (getD l i 0)) (mod-add-mod (c + sum (take i l)) 256 (getD l i 0))
 
+pub negated-wraps : (s : ℕ) → negated (s % 256) ≡ negated s
+negated-wraps s = omega arith
+
 -- the negated sum brings it to 0, and no other byte does
 pub to-zero : (s : ℕ) → (s + negated s) % 256 ≡ 0
 to-zero s = omega arith

@@ -1,19 +1,19 @@
 -- What pack writes. Assumes nothing.
 use mathlib.Core.Path.{_≡_, refl, ap, ap₂, sym, _∙_}
-use Prim.Native.Nat.{ℕ, _+_, _-_, _*_, _%_, _≤_, _<_}
-use native.Mathlib.Nat.{add-zero, mod-mod, le-refl}
+use Prim.Native.Nat.{ℕ, _+_, _-_, _*_, _≤_, _<_}
+use native.Mathlib.Nat.{add-zero, le-refl}
 use native.Mathlib.Omega.{arith}
 use mathlib.Core.List.{List, [], _∷_, _++_, append-assoc}
-use lib.ListN.{length, getD, take, drop, length-append}
+use lib.ListN.{length, getD, take, drop}
 use lib.Seq.{take-at, drop-at, drop-cons, drop-drop, append-snoc, length-take-le}
 use Rattle.digits.specs.Packed.{joined, fields, bytes}
 use Rattle.digits.specs.Sum.{sum, negated}
 use Rattle.digits.proofs.Packed.{length-fields}
-use Rattle.digits.proofs.Sum.{sum-append}
+use Rattle.digits.proofs.Sum.{sum-append, negated-wraps}
 use Rattle.record.specs.Table.{records}
 use Rattle.record.specs.Sizes.{fileSize, headerSize, recordSize}
 use Rattle.carried.specs.Carried.{checkPlace, carriedSum}
-use Rattle.carried.proofs.Carried.{carried-in}
+use Rattle.carried.proofs.Carried.{header-long, carried-in}
 use Rattle.reader.specs.File.{headerWidths}
 use Rattle.fabric.specs.PackedFile.{headerBytes, packedFile}
 
@@ -81,32 +81,29 @@ module _ (c M N : ℕ) (t : List ℕ) (hc : c < 8) (hN : N < 256) (hM : M < 256)
     abbrev behind : List ℕ
     behind = records t N ++ drop (fileSize N) o
 
-    head-long : length (front ++ old ∷ []) ≡ headerSize
-    head-long = length-append front (old ∷ []) ∙ rw three
-
     split : o₁ ≡ (front ++ old ∷ []) ++ drop headerSize o
     split = e₁ ∙ ap (λ (l : List ℕ). front ++ l) (drop-cons o checkPlace 0 (omega arith)) ∙ sym (append-snoc front old (drop headerSize o))
 
     ends : drop (fileSize N) o₁ ≡ drop (fileSize N) o
     ends =
         sym (drop-drop (recordSize * N) headerSize o₁)
-        ∙ ap (drop (recordSize * N)) (ap (drop headerSize) split ∙ drop-at (front ++ old ∷ []) (drop headerSize o) headerSize head-long)
+        ∙ ap (drop (recordSize * N)) (ap (drop headerSize) split ∙ drop-at (front ++ old ∷ []) (drop headerSize o) headerSize (header-long front old three))
         ∙ drop-drop (recordSize * N) headerSize o
 
     laid-parts : o₂ ≡ front ++ old ∷ behind
     laid-parts =
         e₂
-        ∙ ap₂ (λ (p q : List ℕ). p ++ records t N ++ q) (ap (take headerSize) split ∙ take-at (front ++ old ∷ []) (drop headerSize o) headerSize head-long) ends
+        ∙ ap₂ (λ (p q : List ℕ). p ++ records t N ++ q) (ap (take headerSize) split ∙ take-at (front ++ old ∷ []) (drop headerSize o) headerSize (header-long front old three)) ends
         ∙ append-assoc (front ++ old ∷ []) (records t N) (drop (fileSize N) o)
         ∙ append-snoc front old behind
 
     check-right : negated s ≡ checkByte
     check-right =
         ap negated (es ∙ ap (λ (l : List ℕ). carriedSum l N) laid-parts ∙ carried-in front old t (drop (fileSize N) o) N N three (le-refl N))
-        ∙ ap (λ (x : ℕ). (256 - x) % 256) (mod-mod (sum (front ++ records t N)) 256)
+        ∙ negated-wraps (sum (front ++ records t N))
 
     pub file-done : (o₃ : List ℕ) → o₃ ≡ take checkPlace o₂ ++ negated s ∷ drop headerSize o₂ → o₃ ≡ packedFile (c + 1) M t N ++ drop (fileSize N) o
     file-done o₃ e₃ =
         let begins-so : take checkPlace o₂ ≡ front = ap (take checkPlace) laid-parts ∙ take-at front (old ∷ behind) checkPlace three in
-        let ends-so : drop headerSize o₂ ≡ behind = ap (drop headerSize) (laid-parts ∙ sym (append-snoc front old behind)) ∙ drop-at (front ++ old ∷ []) behind headerSize head-long in
+        let ends-so : drop headerSize o₂ ≡ behind = ap (drop headerSize) (laid-parts ∙ sym (append-snoc front old behind)) ∙ drop-at (front ++ old ∷ []) behind headerSize (header-long front old three) in
         e₃ ∙ rw (begins-so, ends-so, check-right) (sym (file-parts (drop (fileSize N) o)))
