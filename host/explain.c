@@ -31,7 +31,7 @@ const char *fabric_explain(uint32_t number)
     case FABRIC_NO_EQUATION:
         return "a term names an equation that does not exist; the place is the term, counted from 0";
     case FABRIC_FLOW_LEFT:
-        return "a flow does not cancel; the place is 8 times its channel plus its colour";
+        return "a flow of a colour that can reach its channel does not cancel; the place is 8 times the channel plus the colour";
     case FABRIC_NO_WEIGHT:
         return "every weight is 0, so the sum says nothing of any queue";
     case FABRIC_STATE_SHORT:

@@ -10,6 +10,7 @@ SAME(FABRIC_MOST_TABLE, 3072);
 SAME(FABRIC_MOST_STATE, 8192);
 SAME(FABRIC_MOST_CHOICES, 128);
 SAME(FABRIC_MOST_MOVES, 255);
+SAME(FABRIC_MOST_SETS, 255);
 SAME(FABRIC_MOST_PROPOSAL, 16384);
 SAME(FABRIC_MOST_PROPOSALS, 1048704);
 SAME(FABRIC_MOST_WEIGHTS, 8192);
@@ -27,6 +28,7 @@ SAME(FABRIC_TERM_BITS(6, FABRIC_JOIN_TOKEN_EQUATION, -1), 0x0D1FFFFF);
 static uint8_t table[FABRIC_TABLE_SIZE(FABRIC_MOST_COMPONENTS + 1)], file[FABRIC_FILE_SIZE(FABRIC_MOST_COMPONENTS + 1)];
 static uint8_t state[FABRIC_MOST_STATE], choices[2 * FABRIC_MOST_CHOICES], moves[FABRIC_MOST_MOVES], weights[FABRIC_MOST_WEIGHTS];
 static uint8_t proposal[FABRIC_BLOCK_SIZE(FABRIC_MOST_TERMS + 1)], results[FABRIC_MOST_RESULTS];
+static uint8_t sets[FABRIC_MOST_SETS];
 static size_t rows, file_len;
 static uint64_t colours, channels;
 
@@ -99,6 +101,14 @@ static void lengths(uint8_t n)
     IS(fabric_entry(second + FABRIC_RESULT_NUMBER), FABRIC_ACCEPTED);
     IS(fabric_entry(second + FABRIC_RESULT_CONSTANT), -5 * 3);
     IS(fabric_entry(second + FABRIC_RESULT_WEIGHTS + FABRIC_WEIGHT(n - 1, 0)), -5);
+
+    memset(sets, 0, sizeof sets);
+    ANSWERS(fabric_reach(file, file_len, sets, FABRIC_SETS_SIZE(n) - 1), FABRIC_RESULT_SPACE);
+    IS(sets[0], 0);
+    ANSWERS(fabric_reach(file, file_len, sets, FABRIC_SETS_SIZE(n)), FABRIC_ACCEPTED);
+    IS(sets[n - 1], FABRIC_COLOUR_BIT(0));
+    IS(sets[n], 0);
+    IS(fabric_reach_place(file, file_len, sets, FABRIC_SETS_SIZE(n)), 0);
 }
 
 static void limits(void)
@@ -189,6 +199,10 @@ static void refusals(void)
     table[FABRIC_QUEUE_OUT] = 1, table[FABRIC_ROW_SIZE + FABRIC_QUEUE_OUT] = 0;
     ANSWERS(pack(), FABRIC_ACCEPTED);
     ANSWERS(check(sizeof other_queue), FABRIC_FLOW_LEFT);
+    /* Without packets there is nothing that can come along. */
+    table[FABRIC_FILLING] = table[FABRIC_ROW_SIZE + FABRIC_FILLING] = 0;
+    ANSWERS(pack(), FABRIC_ACCEPTED);
+    ANSWERS(check(sizeof other_queue), FABRIC_ACCEPTED);
     rows = 1, colours = 1, channels = 1;
     table[FABRIC_QUEUE_OUT] = 0;
     ANSWERS(pack(), FABRIC_ACCEPTED);

@@ -1,4 +1,4 @@
-/* Holds the kinds, fields, ports, choices, cells and equations of fabric.h against what the library does with them. */
+/* Holds the kinds, fields, ports, choices, cells, colour sets and equations of fabric.h against what the library does with them. */
 #include <string.h>
 
 #include "fabric.h"
@@ -25,7 +25,7 @@ static const int OUTPUTS[8][2] = {
 
 enum { ROWS = 7 };
 static uint8_t table[FABRIC_TABLE_SIZE(ROWS)], file[FABRIC_FILE_SIZE(ROWS)], state[FABRIC_STATE_SIZE(ROWS)];
-static uint8_t choices[ROWS], moves[ROWS], weights[FABRIC_WEIGHTS_SIZE(ROWS)], term[FABRIC_TERM_SIZE];
+static uint8_t choices[ROWS], moves[ROWS], sets[ROWS], weights[FABRIC_WEIGHTS_SIZE(ROWS)], term[FABRIC_TERM_SIZE];
 static uint8_t *const self = table; /* the row of component 0 */
 static size_t rows, file_len;
 static uint64_t colours;
@@ -69,6 +69,7 @@ static void pack(void)
 {
     file_len = FABRIC_FILE_SIZE(rows);
     IS(fabric_pack(colours, channels, table, FABRIC_TABLE_SIZE(rows), file, file_len), FABRIC_ACCEPTED);
+    IS(fabric_reach(file, file_len, sets, sizeof sets), FABRIC_ACCEPTED);
 }
 
 static uint32_t step(uint8_t choice)
@@ -87,11 +88,16 @@ static void first_step(uint8_t choice)
 
 static int moved(int port) { return moves[self[port]]; }
 
+/* The colours that can reach a port's channel. The first input has 0 and 1, the second 0 and 2. */
+static int reach(int port) { return sets[self[port]]; }
+#define BITS(d, e) (FABRIC_COLOUR_BIT(d) | FABRIC_COLOUR_BIT(e))
+
 static void sources_and_sinks(void)
 {
     between(FABRIC_SOURCE, 4);
-    self[FABRIC_MASK] = FABRIC_COLOUR_BIT(1) | FABRIC_COLOUR_BIT(3);
+    self[FABRIC_MASK] = BITS(1, 3);
     first_step(FABRIC_SOME(3));
+    IS(reach(FABRIC_SOURCE_OUT), BITS(1, 3));
     IS(moved(FABRIC_SOURCE_OUT), FABRIC_SOME(3));
     IS(step(FABRIC_SOME(0)), FABRIC_BAD_CHOICE);
     IS(step(FABRIC_SOME(2)), FABRIC_BAD_CHOICE);
@@ -102,6 +108,7 @@ static void sources_and_sinks(void)
 
     between(FABRIC_SINK, 4);
     first_step(0);
+    IS(reach(FABRIC_SINK_IN), BITS(0, 1));
     IS(moved(FABRIC_SINK_IN), FABRIC_NONE);
     IS(step(FABRIC_TAKE), FABRIC_ACCEPTED);
     IS(moved(FABRIC_SINK_IN), FABRIC_SOME(1));
@@ -118,6 +125,8 @@ static void queues(void)
     first_step(0);
     IS(moved(FABRIC_QUEUE_IN), FABRIC_SOME(1));
     IS(moved(FABRIC_QUEUE_OUT), FABRIC_SOME(3));
+    IS(reach(FABRIC_QUEUE_IN), BITS(0, 1));
+    IS(reach(FABRIC_QUEUE_OUT), BITS(0, 1) | FABRIC_COLOUR_BIT(3));
     IS(state[FABRIC_CELL_COUNT], 2);
     IS(state[FABRIC_CELL_FRONT], 3);
     IS(state[FABRIC_CELL_FRONT + 1], 1);
@@ -130,6 +139,7 @@ static void maps(void)
     first_step(0);
     IS(moved(FABRIC_FUNCTION_IN), FABRIC_SOME(1));
     IS(moved(FABRIC_FUNCTION_OUT), FABRIC_SOME(2));
+    IS(reach(FABRIC_FUNCTION_OUT), BITS(0, 2));
 
     between(FABRIC_FORK, 4);
     self[FABRIC_FIRST_MAP + 1] = 2, self[FABRIC_SECOND_MAP + 1] = 3;
@@ -137,6 +147,8 @@ static void maps(void)
     IS(moved(FABRIC_FORK_IN), FABRIC_SOME(1));
     IS(moved(FABRIC_FORK_OUT_B), FABRIC_SOME(2));
     IS(moved(FABRIC_FORK_OUT_C), FABRIC_SOME(3));
+    IS(reach(FABRIC_FORK_OUT_B), BITS(0, 2));
+    IS(reach(FABRIC_FORK_OUT_C), BITS(0, 3));
 
     between(FABRIC_JOIN, 4);
     self[FABRIC_FIRST_MAP + 1] = 3;
@@ -144,6 +156,8 @@ static void maps(void)
     IS(moved(FABRIC_JOIN_DATA), FABRIC_SOME(1));
     IS(moved(FABRIC_JOIN_TOKEN), FABRIC_SOME(2));
     IS(moved(FABRIC_JOIN_OUT), FABRIC_SOME(3));
+    IS(reach(FABRIC_JOIN_TOKEN), BITS(0, 2));
+    IS(reach(FABRIC_JOIN_OUT), BITS(0, 3));
 }
 
 static void ways(void)
@@ -155,10 +169,13 @@ static void ways(void)
         IS(moved(FABRIC_SWITCH_IN), FABRIC_SOME(1));
         IS(moved(FABRIC_SWITCH_OUT_B), d == 1 ? FABRIC_SOME(1) : FABRIC_NONE);
         IS(moved(FABRIC_SWITCH_OUT_C), d == 1 ? FABRIC_NONE : FABRIC_SOME(1));
+        IS(reach(FABRIC_SWITCH_OUT_B), BITS(0, 1) & FABRIC_COLOUR_BIT(d));
+        IS(reach(FABRIC_SWITCH_OUT_C), BITS(0, 1) & ~FABRIC_COLOUR_BIT(d));
     }
     /* The queue behind a merge has room for one: what comes second is held, whatever is chosen. */
     between(FABRIC_MERGE, 4);
     first_step(FABRIC_PICK_A);
+    IS(reach(FABRIC_MERGE_OUT), BITS(0, 1) | FABRIC_COLOUR_BIT(2));
     IS(moved(FABRIC_MERGE_IN_A), FABRIC_SOME(1));
     IS(moved(FABRIC_MERGE_OUT), FABRIC_SOME(1));
     IS(state[FABRIC_CELL_HELD], FABRIC_NONE);
@@ -181,24 +198,43 @@ static uint32_t check(uint64_t index, int64_t multiplier)
 }
 
 static unsigned named; /* the indexes that the header has for component 0, a bit each */
+static unsigned left;  /* how many of them are refused for a flow */
 
-/* Alone, that equation leaves its flows; the lowest is that of a port. */
+/* Alone, that equation leaves its flows; the lowest is that of a port. It is refused for it if that colour can reach the port. */
 static void equation(unsigned index, int port, unsigned d)
 {
+    int inside = (reach(port) & FABRIC_COLOUR_BIT(d)) != 0;
     named |= 1u << index;
-    IS(check(index, 1), FABRIC_FLOW_LEFT);
-    IS(fabric_check_place(file, file_len, term, sizeof term, weights, sizeof weights), 8 * self[port] + d);
+    left += inside;
+    IS(check(index, 1), inside ? FABRIC_FLOW_LEFT : FABRIC_NO_WEIGHT);
+    IS(fabric_check_place(file, file_len, term, sizeof term, weights, sizeof weights), inside ? 8 * self[port] + d : 0);
+}
+
+/* All other sources emit all colours, maps keep each, and the switch sends colour 0 to B: so all can come but what a source does not
+ * emit, and what a switch sends to its other output. */
+static void all_come(enum fabric_kind kind, unsigned c)
+{
+    for (size_t k = 1; k < rows; k++)
+        if (table[FABRIC_ROW_SIZE * k + FABRIC_KIND] == FABRIC_SOURCE)
+            table[FABRIC_ROW_SIZE * k + FABRIC_MASK] = (uint8_t)(0xFF00 >> c);
+    for (unsigned d = 0; d < c; d++) {
+        if (kind == FABRIC_FUNCTION || kind == FABRIC_FORK || kind == FABRIC_JOIN)
+            self[FABRIC_FIRST_MAP + d] = (uint8_t)d;
+        if (kind == FABRIC_FORK)
+            self[FABRIC_SECOND_MAP + d] = (uint8_t)d;
+    }
+    if (kind == FABRIC_SOURCE || kind == FABRIC_SWITCH)
+        self[FABRIC_MASK] = FABRIC_COLOUR_BIT(0);
 }
 
 static void equations(enum fabric_kind kind, unsigned c)
 {
     between(kind, c);
-    if (kind == FABRIC_SOURCE)
-        self[FABRIC_MASK] = FABRIC_COLOUR_BIT(0);
+    all_come(kind, c);
     if (kind == FABRIC_QUEUE)
         self[FABRIC_CAPACITY] = 1;
     pack();
-    named = 0;
+    named = 0, left = 0;
     if (kind == FABRIC_JOIN)
         equation(FABRIC_JOIN_TOKEN_EQUATION, FABRIC_JOIN_TOKEN, 0);
     for (unsigned d = 0; d < c; d++) {
@@ -217,6 +253,10 @@ static void equations(enum fabric_kind kind, unsigned c)
         if (kind == FABRIC_MERGE)
             equation(FABRIC_MERGE_EQUATION(d), FABRIC_MERGE_OUT, d);
     }
+    if (kind == FABRIC_SOURCE || kind == FABRIC_SINK)
+        IS(left, 0);
+    else
+        IS(left, kind == FABRIC_FORK ? 2 * c : kind == FABRIC_JOIN ? c + 1 : c);
     for (unsigned index = 0; index < 16; index++)
         IS(check(index, 0), named >> index & 1 ? FABRIC_NO_WEIGHT : FABRIC_NO_EQUATION);
 }

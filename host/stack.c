@@ -18,6 +18,7 @@ enum { PAINT = 0xA5, STACK = 1 << 20, LIMIT = 1 << 16, CHECK_LIMIT = 48 << 10, C
 
 static uint8_t table[24 * 128], file[4 + 13 * 128], state[64 * 128], choices[128], moves[255], weights[64 * 128], out[4 + 13 * 128];
 static uint8_t block[2 + 20], results[8 * (3 + 8 * 128)]; /* a file of one block, the proposal, and its result */
+static uint8_t sets[255];
 static const uint8_t *proposal;
 static size_t rows, file_len, proposal_len;
 static uint64_t channels;
@@ -42,15 +43,16 @@ static void credit_loop(void)
     row(2, 5, 1, 0, 0, 2, 2);
 }
 
-/* Its proposal has no term: refused by 14, after all sums. */
+/* Its proposal leaves the flows at a function: refused by 13, after all sums, by the colour sets, which go along the whole chain. */
 static void chain(void)
 {
-    rows = 0, channels = 128, number = 0, check_number = 14, proposal = NULL, proposal_len = 0;
+    static const uint8_t terms[] = {0, 0, 0, 1};
+    rows = 0, channels = 128, number = 0, check_number = 13, proposal = terms, proposal_len = sizeof terms;
     for (uint8_t x = 0; x < 125; x++)
         row(3, x, x + 1, 0, 0, 0, 0);
     row(6, 125, 126, 127, 128, 0, 0);
     row(1, 126, 0, 0, 0, 0, 0);
-    row(2, 127, 0, 0, 0, 63, 0);
+    row(2, 127, 0, 0, 0, 63, 1);
 }
 
 static void circle(void)
@@ -123,6 +125,8 @@ CALL(ceiling_place, fabric_ceiling_place(file, file_len, proposal, proposal_len,
 CALL(ceiling_value, fabric_ceiling_value(file, file_len, proposal, proposal_len, 2, 0))
 CALL(check_many, answers(fabric_check_many(file, file_len, block, 2 + proposal_len, results, sizeof results), number))
 CALL(check_many_place, fabric_check_many_place(file, file_len, block, 2 + proposal_len, results, sizeof results))
+CALL(reach, answers(fabric_reach(file, file_len, sets, sizeof sets), number))
+CALL(reach_place, fabric_reach_place(file, file_len, sets, sizeof sets))
 
 static const struct {
     const char *name;
@@ -133,7 +137,7 @@ static const struct {
     {"step", step},       {"step_place", step_place},       {"run", run},                       {"run_place", run_place},
     {"check", check},     {"check_place", check_place},     {"check_constant", check_constant},
     {"ceiling", ceiling}, {"ceiling_place", ceiling_place}, {"ceiling_value", ceiling_value},
-    {"check_many", check_many}, {"check_many_place", check_many_place},
+    {"check_many", check_many}, {"check_many_place", check_many_place}, {"reach", reach}, {"reach_place", reach_place},
 };
 enum { CALLS = sizeof calls / sizeof calls[0] };
 

@@ -58,7 +58,7 @@ enum fabric_refusal {
     FABRIC_BAD_CHOICE = 10,          /* a choice is not allowed; place: the lowest such offset */
     FABRIC_PROPOSAL_LENGTH = 11,     /* proposal no multiple of 4 bytes, or longer than 16,384 */
     FABRIC_NO_EQUATION = 12,         /* a term names no equation; place: the lowest such term, counted from 0 */
-    FABRIC_FLOW_LEFT = 13,           /* a flow does not cancel; place: 8 x + d of the lowest such flow L(x,d) */
+    FABRIC_FLOW_LEFT = 13,           /* a flow inside the sets does not cancel; place: 8 x + d of the lowest such flow L(x,d) */
     FABRIC_NO_WEIGHT = 14,           /* no queue keeps a weight other than 0 */
     FABRIC_STATE_SHORT = 21,         /* state shorter than 64 N */
     FABRIC_BAD_STATE = 22,           /* the state is not good; place: the lowest such component */
@@ -93,6 +93,7 @@ enum fabric_refusal {
 #define FABRIC_STATE_SIZE(n) (FABRIC_CELL_SIZE * (n))
 #define FABRIC_CHOICES_SIZE(n) (n)
 #define FABRIC_MOVES_SIZE(m) (m)
+#define FABRIC_SETS_SIZE(m) (m)
 #define FABRIC_PROPOSAL_SIZE(terms) (FABRIC_TERM_SIZE * (terms))
 #define FABRIC_BLOCK_SIZE(terms) (FABRIC_COUNT_SIZE + FABRIC_PROPOSAL_SIZE(terms))
 #define FABRIC_WEIGHTS_SIZE(n) (FABRIC_ENTRY_SIZE * FABRIC_MOST_COLOURS * (n))
@@ -104,6 +105,7 @@ enum fabric_refusal {
 #define FABRIC_MOST_STATE FABRIC_STATE_SIZE(FABRIC_MOST_COMPONENTS)                       /* 8,192 */
 #define FABRIC_MOST_CHOICES FABRIC_CHOICES_SIZE(FABRIC_MOST_COMPONENTS)                   /* 128 */
 #define FABRIC_MOST_MOVES FABRIC_MOVES_SIZE(FABRIC_MOST_CHANNELS)                         /* 255 */
+#define FABRIC_MOST_SETS FABRIC_SETS_SIZE(FABRIC_MOST_CHANNELS)                           /* 255 */
 #define FABRIC_MOST_PROPOSAL FABRIC_PROPOSAL_SIZE(FABRIC_MOST_TERMS)                      /* 16,384 */
 #define FABRIC_MOST_PROPOSALS (FABRIC_MOST_BLOCKS * FABRIC_BLOCK_SIZE(FABRIC_MOST_TERMS)) /* 1,048,704 */
 #define FABRIC_MOST_WEIGHTS FABRIC_WEIGHTS_SIZE(FABRIC_MOST_COMPONENTS)                   /* 8,192 */
@@ -133,7 +135,7 @@ enum fabric_kind {
 #define FABRIC_FILLING 22
 #define FABRIC_FILL_COLOUR 23
 
-/* The bit of colour d in a mask. */
+/* The bit of colour d in a mask, and in a channel's set of colours. */
 #define FABRIC_COLOUR_BIT(d) (128 >> (d))
 
 /* The ports of each kind, by offset in the row:
@@ -284,7 +286,8 @@ uint32_t fabric_run(const uint8_t *fabric, size_t fabric_len, uint8_t *state, si
 uint64_t fabric_run_place(const uint8_t *fabric, size_t fabric_len, const uint8_t *state, size_t state_len, const uint8_t *choices,
                           size_t choices_len);
 
-/* Checks a proposal. Only the fabric and the proposal are read, so it may be done at any time. If the proposal is accepted, the sum of
+/* Checks a proposal. Only the fabric and the proposal are read, so it may be done at any time. Each flow L(x,d) has to cancel whose
+ * colour d is in the set of channel x that fabric_reach lists; another flow may be left. If the proposal is accepted, the sum of
  * weight times n(q,d) over all queues q and colours d equals K after an accepted start on that fabric and a state, and after every
  * list of start, step and run calls on them that follows, accepted or refused, provided that fabric and state keep their bytes
  * between the calls. n(q,d) is how many of the colours in queue q, as many as its count says, are d. Weights are signed 64-bit
@@ -326,6 +329,19 @@ uint32_t fabric_check_many(const uint8_t *fabric, size_t fabric_len, const uint8
 /* Sister call: the place of the refusal. Only the length of the results counts. */
 uint64_t fabric_check_many_place(const uint8_t *fabric, size_t fabric_len, const uint8_t *proposals, size_t proposals_len,
                                  const uint8_t *results, size_t results_len);
+
+/* Lists the colours that can reach each channel: a mask byte a channel, at most 255, with FABRIC_COLOUR_BIT(d) for each colour d in the
+ * channel's set, other bits 0. The sets are the smallest for which holds: a source's output has the colours that it emits; a queue's
+ * output has those of its input, and the fill colour if the filling is above 0; the output of a function, and each of a fork, has what
+ * its map makes of those of the input; a join's output has what the map makes of those of A if B's set has a member, else none; a
+ * switch's output has those of the input that go there; a merge's output has those of both inputs. No run from start moves a colour
+ * on a channel outside its set: wherever, as said for check, an accepted sum equals K, a further step, and each step of a run, moves
+ * only colours that are in the sets of their channels. A colour in a set need not ever come.
+ * Refusals in this order: 1 2 3 4 5 6 7 8 23. */
+uint32_t fabric_reach(const uint8_t *fabric, size_t fabric_len, uint8_t *sets, size_t sets_len);
+
+/* Sister call: the place of the refusal. Only the length of the sets counts. */
+uint64_t fabric_reach_place(const uint8_t *fabric, size_t fabric_len, const uint8_t *sets, size_t sets_len);
 
 #ifdef __cplusplus
 }

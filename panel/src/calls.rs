@@ -7,9 +7,9 @@ use reference::fabric::MOST_COMPONENTS;
 use reference::library::{
     fabric_ceiling, fabric_ceiling_place, fabric_ceiling_value, fabric_check,
     fabric_check_constant, fabric_check_many, fabric_check_many_place, fabric_check_place,
-    fabric_pack, fabric_pack_place, fabric_start, fabric_start_place, fabric_step,
-    fabric_step_place, fabric_unpack, fabric_unpack_channels, fabric_unpack_colours,
-    fabric_unpack_place,
+    fabric_pack, fabric_pack_place, fabric_reach, fabric_reach_place, fabric_start,
+    fabric_start_place, fabric_step, fabric_step_place, fabric_unpack, fabric_unpack_channels,
+    fabric_unpack_colours, fabric_unpack_place,
 };
 use reference::open_table::{read_row, ROW};
 use reference::packed::file_length;
@@ -168,4 +168,16 @@ pub fn ceiling(file: &[u8], proposal: &[u8], queue: usize, colour: usize) -> Res
         fabric_ceiling_place(fabric, fabric_len, given, given_len, queue, colour)
     })?;
     Ok(unsafe { fabric_ceiling_value(fabric, fabric_len, given, given_len, queue, colour) })
+}
+
+/// The colours that can reach each channel, a mask byte each, colour 0 the highest bit. The file was
+/// accepted by `unpack`.
+pub fn reach(file: &[u8]) -> Result<Vec<u8>, Refused> {
+    let mut sets = vec![0; usize::from(file[2])];
+    let (to, to_len) = (sets.as_mut_ptr(), sets.len());
+    let number = unsafe { fabric_reach(file.as_ptr(), file.len(), to, to_len) };
+    accepted(number, || unsafe {
+        fabric_reach_place(file.as_ptr(), file.len(), to, to_len)
+    })?;
+    Ok(sets)
 }

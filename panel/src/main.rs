@@ -12,6 +12,7 @@ mod pack;
 mod part;
 mod proofs;
 mod propose;
+mod reach;
 mod show;
 mod step;
 mod sum;
@@ -32,6 +33,7 @@ panel: fabrics and sums by name
   panel propose [FOLDER]         finds the sums of fabric.bin, writes proof.bin
   panel check [FOLDER]           says what fabric.bin and proof.bin show
   panel terms [FOLDER]           prints proof.bin as text
+  panel reach [FOLDER]           prints the colours that can reach each channel
   panel step [FOLDER [LESSON]]   steps fabric.bin, on the screen or by a lesson
 
 panel COMMAND --help says more. Exit codes: 0 done, 1 refused by the library,
@@ -63,6 +65,7 @@ fn run(words: &[String]) -> Result<(), Failure> {
         "propose" => propose::command(rest),
         "check" => check::command(rest),
         "terms" => terms::command(rest),
+        "reach" => reach::command(rest),
         "step" => step::command(rest),
         _ => Err(Failure::Usage(format!("'{command}' is no command"))),
     }

@@ -195,12 +195,12 @@ fn a_flow_of_a_colour_that_is_left() {
     let without = |term: &str| RING_PROOF.replace(term, "");
     for (proof, words) in [
         (
-            without("02000001"),
-            "the flow of red on 'up' is left: -1 in term 6 (1 * swap.1) (13 at 8)",
+            without("02200001"),
+            "the flow of blue on 'out' is left: 1 in term 1 (1 * ring.1) (13 at 1)",
         ),
         (
-            without("03200001"),
-            "the flow of blue on 'down' is left: -1 in term 8 (1 * back.1) (13 at 17)",
+            "00000001 02000001 03000001 04000001 06000001".to_string(),
+            "the flow of blue on 'up' is left: -1 in term 3 (1 * swap.0) (13 at 9)",
         ),
         (
             "00000001".to_string(),
@@ -215,6 +215,17 @@ fn a_flow_of_a_colour_that_is_left() {
         "05000001",
         "the flow of colour 0 on 'sel' is left: 1 in term 0 (1 * join.8) (13 at 0)",
     );
+}
+
+/// Red never comes to 'up', nor blue to 'down': the terms that say so need not be there.
+#[test]
+fn a_flow_that_never_comes_may_be_left() {
+    let folder = with_proof("check-outside", RING, "");
+    let out = "ring = 2\n  ring.red: at most 2, capacity 3\n  ring.blue: at most 2, capacity 3\n";
+    for left_out in ["", "02000001", "03200001"] {
+        folder.write("proof.bin", bytes(&RING_PROOF.replace(left_out, "")));
+        assert_eq!(folder.panel(&["check"]), Said::printed(out), "{left_out}");
+    }
 }
 
 #[test]

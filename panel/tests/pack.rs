@@ -323,6 +323,7 @@ fn help() {
     assert_eq!((said.code, said.err.as_str()), (0, ""));
     assert!(said.out.contains("\n  panel pack NETLIST [-o FILE] "));
     assert!(said.out.contains("\n  panel show FILE "));
+    assert!(said.out.contains("\n  panel reach [FOLDER] "));
 }
 
 /// Names are as long as somebody writes them.

@@ -13,7 +13,7 @@ use reference::check::accepted_sum;
 use reference::panels::bytes;
 use reference::random::Random;
 use reference::random_fabric::{random_fabric, Plan};
-use reference::samples::{credit_loops, doubling_row, looped_queues};
+use reference::samples::{credit_loops, doubling_row, full_queues};
 
 fn credit_folder(name: &str) -> Folder {
     let folder = Folder::new(name);
@@ -71,7 +71,7 @@ fn a_folder_is_named() {
 fn colours_that_weigh_the_same_are_one_queue() {
     let folder = Folder::new("propose-ring");
     put_netlist(&folder, RING);
-    let out = "ring = 2\n\nwritten: proof.bin with sum 1, 10 terms\n\
+    let out = "ring = 2\n\nwritten: proof.bin with sum 1, 6 terms\n\
                written: proofs.bin with 1 sum\n";
     assert_eq!(folder.panel(&["propose"]), Said::printed(out));
 }
@@ -107,9 +107,9 @@ fn the_sum_that_is_asked_for() {
 #[test]
 fn more_sums_than_a_file_has_blocks() {
     let folder = Folder::new("propose-many");
-    put_fabric(&folder, &looped_queues(128));
+    put_fabric(&folder, &full_queues(128));
     let sums: String = (0..128)
-        .map(|queue| format!("queue{queue} = 0\n"))
+        .map(|queue| format!("queue{queue} = 1\n"))
         .collect();
     let out = format!(
         "{sums}\nwritten: proof.bin with sum 128, 1 term\n\
@@ -142,6 +142,12 @@ fn no_sum_and_nothing_written() {
     assert_eq!(folder.panel(&["propose"]), Said::failed(1, none));
     assert_eq!(folder.files(), before);
 
+    put_netlist(&folder, "queue q a -> a capacity 1\n");
+    let never = "there is no sum but that some colours never come to a queue, \
+                 as 'panel reach' shows; nothing is written";
+    assert_eq!(folder.panel(&["propose"]), Said::failed(1, never));
+    assert_eq!(folder.files(), before);
+
     folder.write("fabric.bin", doubling_row(41).to_file());
     std::fs::remove_file(folder.path("fabric.names")).expect("removed");
     let large = "there is no sum but 1 that takes multipliers of more than 21 bits; \
@@ -161,10 +167,35 @@ fn sums_that_are_left_out_are_counted() {
         .push(reference::samples::queue(channel, channel, 5, 3));
     fabric.channels += 1;
     put_fabric(&folder, &fabric);
-    let out = "queue94.0 = 3\nqueue94.1 = 0\n\nwritten: proof.bin with sum 1, 1 term\n\
-               written: proofs.bin with 2 sums\n\
+    let out = "queue94.0 = 3\n\nwritten: proof.bin with sum 1, 1 term\n\
+               written: proofs.bin with 1 sum\n\
                left out: 1 that takes multipliers of more than 21 bits\n";
     assert_eq!(folder.panel(&["propose"]), Said::printed(out));
+}
+
+/// The join's index 8 has all colours of both its inputs, of which two never come.
+#[test]
+fn a_sum_that_needs_the_colours_that_can_come() {
+    let folder = Folder::new("propose-inside");
+    put_netlist(
+        &folder,
+        "colours alarm token
+source  alarms    -> wanted          emits alarm
+join    gate      wanted credit -> sent
+queue   messages  sent -> arrived    capacity 2
+fork    split     arrived -> read back   second alarm->token token->token
+sink    porter    read
+queue   credits   back -> credit     capacity 2 filling 2 colour token
+",
+    );
+    let sum = "messages.alarm + credits.token = 2\n";
+    let out =
+        format!("{sum}\nwritten: proof.bin with sum 1, 5 terms\nwritten: proofs.bin with 1 sum\n");
+    assert_eq!(folder.panel(&["propose"]), Said::printed(&out));
+    let ceilings =
+        "  messages.alarm: at most 2, capacity 2\n  credits.token: at most 2, capacity 2\n";
+    let out = format!("{sum}{ceilings}");
+    assert_eq!(folder.panel(&["check"]), Said::printed(&out));
 }
 
 #[test]

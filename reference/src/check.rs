@@ -5,6 +5,7 @@ use crate::entries::{write_entries, ENTRY};
 use crate::equations::equation;
 use crate::fabric::Fabric;
 use crate::packed::read_file;
+use crate::reach::ColourSets;
 use crate::refusal::Refusal;
 use crate::state::{count_of, ComponentState};
 use crate::terms::read_proposal;
@@ -54,6 +55,27 @@ pub fn accepted_sum(file: &[u8], proposal: &[u8]) -> Result<Sum, Refusal> {
 
 /// Refusals 11 to 14, in this order.
 pub fn judged(fabric: &Fabric, proposal: &[u8]) -> Result<Sum, Refusal> {
+    let Totals { flows, weights } = added_up(fabric, proposal)?;
+    if let Some(flow) = flow_left(fabric, &flows) {
+        return Err(Refusal::FlowLeft { flow });
+    }
+    if weights.iter().all(|&weight| weight == 0) {
+        return Err(Refusal::NoWeight);
+    }
+    let constant = constant(fabric, &weights);
+    Ok(Sum { weights, constant })
+}
+
+/// What all terms of a proposal add up to.
+pub struct Totals {
+    /// By the number of a flow, what is left of it.
+    pub flows: Vec<i64>,
+    /// Entry 8 times q plus d is the weight of n(q,d), other entries 0.
+    weights: Vec<i64>,
+}
+
+/// Refusals 11 and 12, in this order.
+pub fn added_up(fabric: &Fabric, proposal: &[u8]) -> Result<Totals, Refusal> {
     let mut flows = vec![0; MOST_COLOURS * fabric.channels];
     let mut weights = vec![0; MOST_COLOURS * fabric.components.len()];
     for (place, term) in read_proposal(proposal)?.enumerate() {
@@ -69,14 +91,16 @@ pub fn judged(fabric: &Fabric, proposal: &[u8]) -> Result<Sum, Refusal> {
             weights[MOST_COLOURS * term.component + term.index] += term.multiplier;
         }
     }
-    if let Some(flow) = flows.iter().position(|&total| total != 0) {
-        return Err(Refusal::FlowLeft { flow });
-    }
-    if weights.iter().all(|&weight| weight == 0) {
-        return Err(Refusal::NoWeight);
-    }
-    let constant = constant(fabric, &weights);
-    Ok(Sum { weights, constant })
+    Ok(Totals { flows, weights })
+}
+
+/// The lowest flow inside the colour sets that does not cancel; a leftover flow outside is ignored.
+fn flow_left(fabric: &Fabric, flows: &[i64]) -> Option<usize> {
+    let mut left = (0..flows.len()).filter(|&flow| flows[flow] != 0).peekable();
+    // The sets are worked out only where a flow is left.
+    left.peek()?;
+    let sets = ColourSets::of(fabric);
+    left.find(|&flow| sets.has(flow))
 }
 
 /// K is the sum of weight times n0.

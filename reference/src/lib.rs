@@ -2,8 +2,9 @@
 //!
 //! The calls on files are `unpack` and `pack`, those on a state `start`, `step` and `run`, and
 //! `check` judges a proposed sum, from which `ceiling` works out the most that a queue can hold of
-//! a colour; `check_many` judges the blocks of a file, a proposed sum each. Every call answers with
-//! a `Result`; a `Refusal` knows its number and its place.
+//! a colour; `check_many` judges the blocks of a file, a proposed sum each. `reach` lists the colours
+//! that can reach each channel. Every call answers with a `Result`; a `Refusal` knows its number and
+//! its place.
 
 // The document's rules and calls.
 pub mod blocks;
@@ -25,6 +26,7 @@ pub mod merge;
 pub mod open_table;
 pub mod packed;
 pub mod persistence;
+pub mod reach;
 pub mod refusal;
 pub mod rules;
 pub mod signals;
@@ -45,8 +47,9 @@ pub mod null_space;
 pub mod sparse;
 pub mod sum_basis;
 
-// For comparing two runs.
+// For the comparison: a digest of two runs, and how a proposal fails or passes.
 pub mod digest;
+pub mod left;
 
 // Fabrics, states and proposals to try them on.
 pub mod panels;
@@ -67,5 +70,6 @@ pub use component::{Component, Kind};
 pub use fabric::Fabric;
 pub use file_calls::{pack, unpack, Unpacked};
 pub use listing::listing;
+pub use reach::reach;
 pub use refusal::Refusal;
 pub use state_calls::{run, start, step};

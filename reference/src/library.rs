@@ -59,6 +59,12 @@ extern "C" {
         queue: u64,
         colour: u64,
     ) -> u32;
+    pub fn fabric_reach(
+        fabric: *const u8,
+        fabric_len: usize,
+        sets: *mut u8,
+        sets_len: usize,
+    ) -> u32;
 }
 
 // The sister calls: they take what their call takes and write nothing.
@@ -152,5 +158,11 @@ extern "C" {
         proposal_len: usize,
         queue: u64,
         colour: u64,
+    ) -> u64;
+    pub fn fabric_reach_place(
+        fabric: *const u8,
+        fabric_len: usize,
+        sets: *const u8,
+        sets_len: usize,
     ) -> u64;
 }

@@ -1,39 +1,44 @@
-//! Integer combinations of equations in which all flows cancel, by exact elimination.
+//! Integer combinations of equations in which all flows inside given sets cancel, by exact
+//! elimination.
 
 use std::collections::HashMap;
 
 use crate::component::Kind;
-use crate::equations::{equation, INDEXES};
+use crate::equations::{equation, Flow, INDEXES};
 use crate::fabric::Fabric;
+use crate::reach::ColourSets;
 use crate::sparse::{added, collected, divide_by_common, Sparse};
 use crate::terms::{fits, Term};
 
-/// Combinations in which all flows cancel, each the multipliers of the equations, which are numbered
-/// 16 times their component plus their index. Each other such combination is a rational combination
-/// of them, unless some were lost.
+/// Combinations in which all flows inside the sets cancel, each the multipliers of the equations,
+/// which are numbered 16 times their component plus their index. Each other such combination is a
+/// rational combination of them, unless some were lost.
 #[derive(Default)]
 pub struct NullSpace {
     /// No equation of a queue stands in them.
     pub without_queues: Vec<Sparse>,
+    /// Each is one equation of a queue, for a colour that never comes there.
+    pub never_queued: Vec<Sparse>,
     /// In each stands a queue's equation that stands in no other, so none of the sums that they
-    /// give follows from the others.
+    /// give follows from the others. Each is for a colour that is in the set of the queue's output.
     pub with_queues: Vec<Sparse>,
     /// How many equations were given up since factors grew too large; each takes one combination
     /// away at most.
     pub lost: usize,
 }
 
-pub fn null_space(fabric: &Fabric) -> NullSpace {
+pub fn null_space(fabric: &Fabric, sets: &ColourSets) -> NullSpace {
     let mut found = NullSpace::default();
     let mut by_lowest_flow = HashMap::new();
     for number in equations_of_queues_last(fabric) {
-        let Some(one) = Combination::of_one(fabric, number) else {
+        let Some(one) = Combination::of_one(fabric, sets, number) else {
             continue;
         };
         match one.reduced(&by_lowest_flow) {
             None => found.lost += 1,
             Some(Combination { flows, multipliers }) if flows.is_empty() => {
                 let group = match is_of_queue(fabric, number) {
+                    true if !comes(fabric, sets, number) => &mut found.never_queued,
                     true => &mut found.with_queues,
                     false => &mut found.without_queues,
                 };
@@ -49,6 +54,14 @@ pub fn null_space(fabric: &Fabric) -> NullSpace {
 
 pub fn is_of_queue(fabric: &Fabric, number: usize) -> bool {
     fabric.components[number / INDEXES].kind == Kind::Queue
+}
+
+/// Whether the colour of a queue's equation is in the set of its output. If not, it is not in that of
+/// its input either.
+fn comes(fabric: &Fabric, sets: &ColourSets, number: usize) -> bool {
+    let [_, channel, _] = fabric.components[number / INDEXES].ports;
+    let colour = number % INDEXES;
+    sets.has(Flow { channel, colour }.number())
 }
 
 /// `None` if a multiplier does not fit a term.
@@ -70,7 +83,7 @@ fn equations_of_queues_last(fabric: &Fabric) -> Vec<usize> {
     numbers
 }
 
-/// What is left of each flow, and the multiplier of each equation.
+/// What is left of each flow inside the sets, and the multiplier of each equation.
 struct Combination {
     flows: Sparse,
     multipliers: Sparse,
@@ -78,12 +91,13 @@ struct Combination {
 
 impl Combination {
     /// `None` if there is no such equation.
-    fn of_one(fabric: &Fabric, number: usize) -> Option<Combination> {
+    fn of_one(fabric: &Fabric, sets: &ColourSets, number: usize) -> Option<Combination> {
         let component = &fabric.components[number / INDEXES];
         let equation = equation(component, fabric.colours, number % INDEXES)?;
-        let flows = equation
+        let inside = equation
             .into_iter()
-            .map(|(flow, factor)| (flow.number(), i128::from(factor)));
+            .filter(|(flow, _)| sets.has(flow.number()));
+        let flows = inside.map(|(flow, factor)| (flow.number(), i128::from(factor)));
         Some(Combination {
             flows: collected(flows.collect()),
             multipliers: vec![(number, 1)],

@@ -1,4 +1,4 @@
-//! Random proposals in which all flows cancel.
+//! Random proposals in which all flows cancel, or all inside the colour sets.
 
 use std::collections::BTreeMap;
 
@@ -6,30 +6,50 @@ use crate::equations::{equation, INDEXES};
 use crate::fabric::Fabric;
 use crate::null_space::{null_space, terms};
 use crate::random::Random;
+use crate::reach::ColourSets;
+use crate::sparse::Sparse;
 use crate::terms::{fits, Term, MOST_TERMS, MULTIPLIER_BOUND};
 
 /// A component and an index of it.
 type Name = (usize, usize);
 
-/// The equations of a fabric, and combinations of them in which all flows cancel.
+/// The equations of a fabric, and groups of combinations of them that check does not refuse for a flow.
 pub struct Equations {
     names: Vec<Name>,
-    cancelling: Vec<Vec<Term>>,
+    /// None is empty.
+    groups: Vec<Vec<Vec<Term>>>,
 }
 
 impl Equations {
+    /// In one group all flows cancel, in the next all inside the sets. In the last no flow that stands
+    /// there is inside, or no queue.
     pub fn of(fabric: &Fabric) -> Equations {
+        let inside = null_space(fabric, &ColourSets::of(fabric));
+        let last = [inside.never_queued, inside.without_queues].concat();
+        let everywhere = Equations::everywhere(fabric).groups;
+        let mut groups = vec![of_terms(&inside.with_queues), of_terms(&last)];
+        groups.extend(everywhere);
+        Equations::in_groups(fabric, groups)
+    }
+
+    /// In all of the combinations all flows cancel.
+    pub fn everywhere(fabric: &Fabric) -> Equations {
+        let found = null_space(fabric, &ColourSets::full(fabric));
+        let all = [found.without_queues, found.with_queues].concat();
+        Equations::in_groups(fabric, vec![of_terms(&all)])
+    }
+
+    fn in_groups(fabric: &Fabric, mut groups: Vec<Vec<Vec<Term>>>) -> Equations {
+        groups.retain(|group| !group.is_empty());
         let exists = |&(component, index): &Name| {
             let component = &fabric.components[component];
             equation(component, fabric.colours, index).is_some()
         };
         let numbers = 0..INDEXES * fabric.components.len();
         let names = numbers.map(|number| (number / INDEXES, number % INDEXES));
-        let found = null_space(fabric);
-        let combinations = found.without_queues.iter().chain(&found.with_queues);
         Equations {
             names: names.filter(exists).collect(),
-            cancelling: combinations.filter_map(terms).collect(),
+            groups,
         }
     }
 
@@ -38,13 +58,13 @@ impl Equations {
         (!self.names.is_empty()).then(|| random.pick(&self.names))
     }
 
-    /// Terms in which all flows cancel, none if that is the only way. Often equal terms are split
-    /// and terms without effect are added, up to as many as there may be, in any order.
+    /// Terms of some combinations, none if there are none. Often equal terms are split and terms
+    /// without effect are added, up to as many as there may be, in any order.
     pub fn cancelling_terms(&self, random: &mut Random) -> Vec<Term> {
-        if self.cancelling.is_empty() {
+        if self.groups.is_empty() {
             return Vec::new();
         }
-        let plain = self.cancelling[random.below(self.cancelling.len())].clone();
+        let plain = self.pick_combination(random).to_vec();
         if random.percent(30) {
             return plain;
         }
@@ -64,11 +84,17 @@ impl Equations {
         terms
     }
 
-    /// Terms in which all flows cancel and terms without effect, together just so many, in any
-    /// order. `None` if that is too few.
+    /// One of the groups, whatever its size, and one of its combinations. There is a group.
+    fn pick_combination(&self, random: &mut Random) -> &[Term] {
+        let group = &self.groups[random.below(self.groups.len())];
+        &group[random.below(group.len())]
+    }
+
+    /// Terms of a combination and terms without effect, together just so many, in any order. `None`
+    /// if that is too few.
     pub fn just_so_many(&self, random: &mut Random, count: usize) -> Option<Vec<Term>> {
-        let short = self.cancelling.iter().filter(|terms| terms.len() <= count);
-        let short: Vec<_> = short.collect();
+        let all = self.groups.iter().flatten();
+        let short: Vec<_> = all.filter(|terms| terms.len() <= count).collect();
         if short.is_empty() {
             return None;
         }
@@ -89,7 +115,7 @@ impl Equations {
                 6..9 => random.between(0, 10) as i64 - 5,
                 _ => random.between(0, 1 << 22) as i64 - (1 << 21),
             };
-            for term in &self.cancelling[random.below(self.cancelling.len())] {
+            for term in self.pick_combination(random) {
                 let total: &mut i64 = totals.entry((term.component, term.index)).or_default();
                 *total += times * term.multiplier;
             }
@@ -110,6 +136,11 @@ impl Equations {
             }
         }
     }
+}
+
+/// Those whose multipliers fit.
+fn of_terms(combinations: &[Sparse]) -> Vec<Vec<Term>> {
+    combinations.iter().filter_map(terms).collect()
 }
 
 fn term((component, index): Name, multiplier: i64) -> Term {

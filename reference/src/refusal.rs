@@ -26,7 +26,7 @@ pub enum Refusal {
     ProposalLength,
     /// No such component or equation (first such term, from 0).
     NoEquation { term: usize },
-    /// A flow left (8 times channel plus colour, lowest).
+    /// A flow left inside the colour sets (8 times channel plus colour, lowest).
     FlowLeft { flow: usize },
     /// All weights 0.
     NoWeight,

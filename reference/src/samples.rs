@@ -14,6 +14,14 @@ impl Fabric {
         file
     }
 
+    /// The same components, the last one first.
+    pub fn laid_backwards(&self) -> Fabric {
+        Fabric {
+            components: self.components.iter().rev().copied().collect(),
+            ..*self
+        }
+    }
+
     /// The open table, whether or not the fabric would be accepted.
     pub fn to_table(&self) -> Vec<u8> {
         let mut table = vec![0; ROW * self.components.len()];
@@ -113,6 +121,13 @@ pub fn looped_queues(count: usize) -> Fabric {
     }
 }
 
+/// The same, each full.
+pub fn full_queues(count: usize) -> Fabric {
+    let mut looped = looped_queues(count);
+    looped.components.iter_mut().for_each(|it| it.filling = 1);
+    looped
+}
+
 /// A source, functions in a row and a sink.
 pub fn function_row(count: usize) -> Fabric {
     let last = count as u8 - 2;
@@ -127,6 +142,17 @@ pub fn function_row(count: usize) -> Fabric {
         channels: count - 1,
         components,
     }
+}
+
+/// A source, queues in a row and a sink.
+pub fn queue_row(count: usize) -> Fabric {
+    let mut row = function_row(count);
+    let last = row.components.len() - 1;
+    for component in &mut row.components[1..last] {
+        let [a, b, _] = component.ports;
+        *component = queue(a, b, 1, 0);
+    }
+    row
 }
 
 /// A source of two colours, switches into merges in a row and a sink; 63 such pairs make 128

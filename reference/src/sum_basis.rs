@@ -3,6 +3,7 @@
 use crate::equations::INDEXES;
 use crate::fabric::Fabric;
 use crate::null_space::{is_of_queue, null_space, terms};
+use crate::reach::ColourSets;
 use crate::sparse::{added, divide_by_common, factor_of, negated, Sparse};
 use crate::terms::{Term, MULTIPLIER_BOUND};
 
@@ -14,12 +15,15 @@ pub struct SumBasis {
     /// follows from the others.
     pub sums: Vec<Vec<Term>>,
     /// How many more there are at most whose multipliers were too large. If there are none, each
-    /// other sum is a rational combination of these.
+    /// other sum is a rational combination of these and of sums that only say which colours never
+    /// come to a queue.
     pub left_out: usize,
+    /// How many sums there are of this sort: one queue and one colour.
+    pub never_queued: usize,
 }
 
 pub fn sum_basis(fabric: &Fabric) -> SumBasis {
-    let found = null_space(fabric);
+    let found = null_space(fabric, &ColourSets::of(fabric));
     let sum = |multipliers| Sum::new(fabric, multipliers);
     let mut sums: Vec<Sum> = found.with_queues.into_iter().map(sum).collect();
     reduce(fabric, &mut sums);
@@ -29,6 +33,7 @@ pub fn sum_basis(fabric: &Fabric) -> SumBasis {
     let sums: Vec<Vec<Term>> = sums.iter().filter_map(Sum::terms).collect();
     SumBasis {
         left_out: found.lost + all - sums.len(),
+        never_queued: found.never_queued.len(),
         sums,
     }
 }

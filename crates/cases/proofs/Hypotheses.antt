@@ -1,16 +1,22 @@
 -- The hypothesis records of inner functions are met by the credit loop and by a fabric with all eight kinds, from the state at start, under choices
 -- by which sources emit, sinks take and merges pick B. Assumes nothing.
-use mathlib.Core.Path.{_≡_, refl}
+use mathlib.Core.Path.{_≡_, refl, sym, ap, _∙_}
 use mathlib.Core.List.{List, [], _∷_, _++_}
 use Prim.Native.Nat.{ℕ, _*_, _≤_}
-use lib.ListN.{length, drop}
+use native.Mathlib.Omega.{arith}
+use lib.ListN.{length, getD, drop, replicate}
 use Rattle.digits.specs.Least.{least}
 use Rattle.digits.specs.UpTo.{upTo}
+use Rattle.digits.proofs.UpTo.{upTo-at}
 use Rattle.record.specs.Table.{openTable, records}
 use Rattle.record.specs.Record.{recordRow, recordBytes}
-use Rattle.component.specs.Kind.{kindOf}
+use Rattle.component.specs.Kind.{kindOf, portOf, portUse}
+use Rattle.component.specs.Row.{maskBits}
+use Rattle.wiring.specs.Signals.{endOf}
 use Rattle.netlist.specs.Netlist.{Netlist, netlist, sized}
 use Rattle.netlist.specs.Accepted.{AcceptedFabric, AcceptedNetlist}
+use Rattle.reach.specs.Rounds.{passed, round, rounds, reachable, setByte}
+use Rattle.reach.specs.Known.{Known}
 use Rattle.reader.specs.Reading.{ReadOf}
 use Rattle.reader.specs.declared.Reading.{Reading}
 use Rattle.fabric.specs.PackedFile.{headerBytes, packedFile}
@@ -33,6 +39,8 @@ use Rattle.start.proofs.Startable.{startable}
 use Rattle.flows.specs.Steps.{Holds}
 use Rattle.balance.specs.Balance.{transfer}
 use Rattle.balance.proofs.Holds.{holds}
+use Rattle.inside.specs.Inside.{Inside}
+use Rattle.inside.proofs.Inside.{inside-start}
 use Rattle.cases.specs.CreditLoop.{creditTable, creditFile}
 use Rattle.cases.specs.EightKinds.{eightTable, eightFile}
 use Rattle.cases.proofs.CreditLoop.{credit-accepted}
@@ -62,6 +70,9 @@ module _ (f : Netlist) (ends order : List ℕ) (a : AcceptedFabric f ends order)
   pub holds-met : Holds f (transfer (moved f (started f state) choices)) (counts (started f state)) (counts (next f (started f state) choices))
   holds-met = holds f ends order (started f state) choices steps-met
 
+  pub inside-met : Inside f (started f state)
+  inside-met = inside-start f ends order a state
+
 -- ---- the credit loop
 abbrev creditChoices : List ℕ
 creditChoices = 1 ∷ 0 ∷ 0 ∷ 0 ∷ 1 ∷ 0 ∷ []
@@ -74,6 +85,14 @@ pub credit-steps : (before after ends order : List ℕ) (answer : Reading) → R
     → CanStep (netlist 1 6 6 (openTable creditFile 6)) ends order (started (netlist 1 6 6 (openTable creditFile 6)) state) creditChoices
 credit-steps before after ends order answer r state l =
     steps-met (netlist 1 6 6 (openTable creditFile 6)) ends order (credit-accepted before after ends order answer r) creditChoices refl credit-choices state l
+
+-- its colour sets in lent bytes: colour 0 on each channel
+credit-masks : upTo 6 (setByte (netlist 1 6 6 (openTable creditFile 6))) ≡ replicate 6 128
+unfolding creditFile creditTable packedFile headerBytes records recordBytes recordRow openTable kindOf portOf portUse endOf least passed round rounds reachable maskBits setByte upTo
+credit-masks = refl
+
+pub credit-known : Known (netlist 1 6 6 (openTable creditFile 6)) (replicate 6 128)
+credit-known = record { given = λ _. record { long = omega arith; at = λ x l. sym (ap (λ (s : List ℕ). getD s x 0) credit-masks) ∙ upTo-at (setByte (netlist 1 6 6 (openTable creditFile 6))) 0 6 x l } }
 
 -- ---- all eight kinds
 abbrev eightChoices : List ℕ

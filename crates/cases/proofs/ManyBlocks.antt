@@ -13,6 +13,7 @@ use Rattle.wiring.specs.Ends.{firstUnmatched}
 use Rattle.wiring.specs.Signals.{dependsOn, nearOf, endOf, dependence}
 use Rattle.reader.specs.File.{headerFields, netlistIn, firstBadRow, firstBadRecord}
 use Rattle.fabric.specs.PackedFile.{headerBytes, packedFile}
+use Rattle.reach.specs.Rounds.{passed, round, rounds, reachable}
 use Rattle.equations.specs.Equations.{side, hasIndex, hasEquation, factor}
 use Rattle.flows.specs.Terms.{componentOf, index, multiplier}
 use Rattle.flows.specs.Flows.{flowSum, weight, entry, acceptedSum, constant}
@@ -27,6 +28,6 @@ use Rattle.cases.specs.Table.{found, expected}
 pub all-many-blocks : found answerTo manyBlocks ≡ expected manyBlocks
 unfolding manyBlocks creditTable creditFile packedFile headerBytes headerFields records recordBytes recordRow recordPad openTable firstBadRow firstBadRecord firstUnmatched endOf dependence dependsOn
     nearOf least count any walks hasCircle rowOk kindOf portOf portUse usesFirstMap usesSecondMap usesMask isSource isQueue netlistIn sumTo isZero side hasIndex hasEquation factor componentOf index
-    multiplier flowSum weight entry acceptedSum constant badTerm isLeft isWeight judged constantBy upTo termCount blockStart block blocks overlong badBlocks eachBlock resultSize entryBy result
+    multiplier flowSum weight entry acceptedSum constant badTerm passed round rounds reachable isLeft isWeight judged constantBy upTo termCount blockStart block blocks overlong badBlocks eachBlock resultSize entryBy result
     resultBytes over manyVerdict overBy tableAfterMany bytesAfterMany
 all-many-blocks = refl

@@ -22,6 +22,7 @@ use Rattle.cells.specs.Start.{startCell, startAt, started}
 use Rattle.rules.specs.Rules.{rule}
 use Rattle.signals.specs.Signals.{ruleOf, value, moved, moves}
 use Rattle.state.specs.Step.{cellNext, nextAt, stateNext, next}
+use Rattle.reach.specs.Rounds.{passed, round, rounds, reachable}
 use Rattle.equations.specs.Equations.{side, hasIndex, hasEquation, factor}
 use Rattle.flows.specs.Terms.{componentOf, index, multiplier}
 use Rattle.flows.specs.Flows.{flowSum, weight, entry, acceptedSum, constant}
@@ -39,5 +40,5 @@ unfolding starred creditTable creditFile forkIntoJoin packedFile headerBytes hea
     endOf dependence dependsOn nearOf least count any walks hasCircle rowOk kindOf portOf portUse usesFirstMap usesSecondMap usesMask isSource isQueue packed netlistIn startVerdict
     stateAfterStart stepVerdict stateAfterStep movesAfterStep checkVerdict checkConstant weightsAfterCheck started cells startAt startCell cellWith queueColours goodChoice choiceAt
     badChoice goodByte all goodCell badComponent cellNext nextAt stateNext next moves moved value val ruleOf rule sumTo isZero side hasIndex hasEquation factor componentOf index
-    multiplier flowSum weight entry acceptedSum constant badTerm isLeft isWeight constantBy upTo tableBy spelled decimal weightLine weightLines sumLine textBy listingOf listing
+    multiplier flowSum weight entry acceptedSum constant badTerm passed round rounds reachable isLeft isWeight constantBy upTo tableBy spelled decimal weightLine weightLines sumLine textBy listingOf listing
 all-starred = refl

@@ -1,19 +1,16 @@
 -- Ceilings, as one table of inputs and expected answers.
 use mathlib.Core.List.{List, [], _∷_, _++_}
-use Prim.Native.Nat.{ℕ, _+_, _*_, _^_}
-use Rattle.digits.specs.Packed.{fields, bytes}
+use Prim.Native.Nat.{ℕ, _+_}
 use Rattle.refusals.specs.Refusals.{numberOf, placeOf}
 use Rattle.fabric.specs.PackedFile.{packedFile}
 use Rattle.ceiling.specs.Ceiling.{ceilingVerdict, ceilingValue}
-use Rattle.cases.specs.Rows.{line}
+use Rattle.cases.specs.Rows.{line, term}
 use Rattle.cases.specs.Table.{Case, _gives_}
 use Rattle.cases.specs.CreditLoop.{creditFile}
 use Rattle.cases.specs.EightKinds.{eightFile}
+use Rattle.cases.specs.ColourSets.{throughFile}
 
--- a term of component, index and multiplier, the last in two's complement of 21 bits
-abbrev term : ℕ → ℕ → ℕ → List ℕ
-term k i m = fields (bytes 4) (k * 2 ^ 25 + i * 2 ^ 21 + m)
-
+-- -1 in two's complement of 21 bits
 abbrev minusOne : ℕ
 minusOne = 2097151
 
@@ -55,6 +52,8 @@ ceilings =
     ∷ (place twoFile (loopSum 0 2 ++ loopSum 6 1) 2 0 gives answer 0 0 2)
     -- K is -1; two weights of -1 in a queue of capacity 2 add 4
     ∷ (place eightFile difference 5 1 gives answer 0 0 3)
+    -- no packet of colour 1 comes that way: K is 0, the weight 7
+    ∷ (place (throughFile 128 0) (term 1 1 7) 1 1 gives answer 0 0 0)
     -- 13 and 14 come first
     ∷ (place creditFile (term 2 0 1) 0 0 gives answer 13 16 0)
     ∷ (place creditFile [] 0 0 gives answer 14 0 0)

@@ -6,6 +6,7 @@ ghost use Rattle.refusals.specs.declared.Verdict.the-variants.{Refused};
 ghost use Rattle.component.specs.Limits.{mostEntries};
 ghost use Rattle.netlist.specs.Netlist.{netlistOf};
 ghost use Rattle.netlist.specs.Accepted.{AcceptedNetlist};
+ghost use Rattle.reach.specs.Known.{Known};
 ghost use Rattle.ceiling.specs.Ceiling.{noPlace, placed, ceilingBy, ceilingVerdict, ceilingValue};
 use component::MOST_ENTRIES;
 use component::TABLE_SIZE;
@@ -48,14 +49,22 @@ fn refused(r: Refusal) -> Bound
 }
 
 // The ceiling on a fabric that was read.
-fn ceiling_of(table: &[u8], size: Size, proposal: &[u8], queue: u64, colour: u64) -> Bound
+fn ceiling_of(
+    table: &[u8],
+    size: Size,
+    sets: &[u8],
+    proposal: &[u8],
+    queue: u64,
+    colour: u64,
+) -> Bound
     requires { ⌜ AcceptedNetlist (netlistOf size (now table)) ⌝ }
+    requires { ⌜ Known (netlistOf size (now table)) (now sets) ⌝ }
     ensures { λ r. ⌜ (r .verdict ≡ placed (netlistOf size (now (table .entry))) (now (proposal .entry)) queue colour)
         × (r .ceiling ≡ ceilingBy (placed (netlistOf size (now (table .entry))) (now (proposal .entry)) queue colour) (netlistOf size (now (table .entry))) (now (proposal .entry)) queue colour) ⌝ }
 {
     let u = entry_of(table, size, queue, colour);
     let mut none = [0u8; 1];
-    let a = judgement::judge_entry(table, size, proposal, MOST_ENTRIES, &mut none, u);
+    let a = judgement::judge_entry(table, size, sets, proposal, MOST_ENTRIES, &mut none, u);
     let j = a.judgement;
     let found = j.verdict;
     match found {
@@ -89,7 +98,7 @@ pub fn ceiling(file: &[u8], proposal: &[u8], queue: u64, colour: u64) -> Bound
         Reading::Rejected(e) => refused(e),
         Reading::Fabric(size) => {
             let end = ROW_SIZE * size.components;
-            ceiling_of(&rows[..end], size, proposal, queue, colour)
+            ceiling_of(&rows[..end], size, &file[..0], proposal, queue, colour)
         }
     }
 }

@@ -24,7 +24,7 @@ pub fn check_answer(file: &[u8], proposal: &[u8], space: usize) -> Judgement
         Reading::Fabric(size) => {
             let end = ROW_SIZE * size.components;
             let mut none = [0u8; 1];
-            judgement::judge_bytes(&rows[..end], size, proposal, space, &mut none)
+            judgement::judge_bytes(&rows[..end], size, &file[..0], proposal, space, &mut none)
         }
     }
 }
@@ -42,7 +42,7 @@ pub fn check(file: &[u8], proposal: &[u8], weights: &mut [i64]) -> Judgement
         Reading::Rejected(e) => judgement::refused(e),
         Reading::Fabric(size) => {
             let end = ROW_SIZE * size.components;
-            judgement::judge(&rows[..end], size, proposal, &mut *weights)
+            judgement::judge(&rows[..end], size, &file[..0], proposal, &mut *weights)
         }
     }
 }
@@ -60,7 +60,14 @@ pub fn check_bytes(file: &[u8], proposal: &[u8], weights: &mut [u8]) -> Verdict
         Reading::Fabric(size) => {
             let end = ROW_SIZE * size.components;
             let space = weights.len() / 8;
-            let j = judgement::judge_bytes(&rows[..end], size, proposal, space, &mut *weights);
+            let j = judgement::judge_bytes(
+                &rows[..end],
+                size,
+                &file[..0],
+                proposal,
+                space,
+                &mut *weights,
+            );
             j.verdict
         }
     }

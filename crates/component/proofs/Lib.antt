@@ -1,5 +1,6 @@
 pub mod ByKind
 pub mod FitsBelow
 pub mod Masks
+pub mod Sets
 pub mod Row
 pub mod Facts

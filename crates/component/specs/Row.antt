@@ -1,6 +1,6 @@
 -- A row of the open table by the names of its fields, and when a fabric of C colours and M channels may have it.
-use Prim.Native.Nat.{ℕ, _+_, _-_, _*_, _/_, _%_, _^_}
-use mathlib.Core.Bool.{Bool, true, false, not, _&&_, _||_}
+use Prim.Native.Nat.{ℕ, zero, suc, _+_, _-_, _*_, _/_, _%_, _^_}
+use mathlib.Core.Bool.{Bool, true, false, cond, not, _&&_, _||_}
 use mathlib.Core.List.{List}
 use lib.ListN.{getD}
 use lib.Dec.{leb, ltb, eqb}
@@ -35,6 +35,14 @@ mask row = getD row 20 0
 -- in a mask byte colour 0 is the highest bit
 abbrev pub hasColour : ℕ → ℕ → Bool
 hasColour bits d = eqb (bits / 2 ^ (7 - d) % 2) 1
+
+-- the colours of a set below n as bits, and the mask byte of a set
+unfoldable pub maskBits : ℕ → (ℕ → Bool) → ℕ
+maskBits zero s = 0
+maskBits (suc n) s = 2 * maskBits n s + cond (s n) 1 0
+
+abbrev pub maskByte : (ℕ → Bool) → ℕ
+maskByte s = maskBits 8 s
 
 abbrev pub masked : List ℕ → ℕ → Bool
 masked row d = hasColour (mask row) d

@@ -35,6 +35,7 @@ use Rattle.calls.specs.Calls.{Call, start, step, run, stateAfterAll, verdictOn}
 use Rattle.calls.proofs.Calls.{calls-keep}
 use Rattle.demands.specs.Demands.{ConstantSums, AcceptedExactly, GoodAlways, FilesAndTables, StepSignals, CircleExactly, StepAccepted, RunAccepted, entryOfBytes, entryOf, sumRead, WeightsRead, ConstantSumsRead, ConstantSumsInTable}
 use Rattle.demands.proofs.Chains.{ready-passes, circle-refuses}
+use Rattle.demands.proofs.Reach.{file-netlist}
 use Rattle.demands.proofs.Sums.{sums-kept}
 use Rattle.demands.proofs.ReadBack.{bytes-back, table-back, sum-is}
 
@@ -63,9 +64,9 @@ constantSums file p space accepted state began calls = sums-kept file p (checked
 pub acceptedExactly : AcceptedExactly
 acceptedExactly file p space ok formed room =
     let f : Netlist = netlistIn file in
-    let few = facts file ok .2 .fewColours in (
-      λ e. let j = checked file p space e in (accepted-cancels f p few j, accepted-weighty f p j),
-      λ h. check-given file p space ok room (accepted-exactly f p few formed (h .0) (h .1)),
+    let n = file-netlist file ok in (
+      λ e. let j = checked file p space e in (accepted-cancels f p n j, accepted-weighty f p j),
+      λ h. check-given file p space ok room (accepted-exactly f p n formed (h .0) (h .1)),
     )
 
 -- ---- no call is refused because of the state

@@ -1,4 +1,5 @@
 pub mod Chains
+pub mod Reach
 pub mod Sums
 pub mod ReadBack
 pub mod Demands

@@ -1,6 +1,6 @@
 -- What the customer is promised: the theorems that proofs/Demands.antt proves or cites; those of each later request have a file of their own here. Demand 1 is the
--- contracts (src/ of fabric, stepping, checking, ceiling, many): of each call the answer and every lent byte after it are those of its definition (fabric/specs/Calls.antt,
--- stepping/specs/Calls.antt, checking/specs/Check.antt, ceiling/specs/Ceiling.antt, many/specs/Many.antt), with nothing required.
+-- contracts (src/ of fabric, stepping, reaching, checking, ceiling, many): of each call the answer and every lent byte after it are those of its definition (fabric/specs/Calls.antt,
+-- stepping/specs/Calls.antt, reaching/specs/Reach.antt, checking/specs/Check.antt, ceiling/specs/Ceiling.antt, many/specs/Many.antt), with nothing required.
 use mathlib.Core.Path.{_≡_}
 use mathlib.Core.Logic.{_↔_}
 use mathlib.Core.List.{List}
@@ -21,7 +21,7 @@ use Rattle.cells.specs.Choices.{Allowed, stepChoices}
 use Rattle.cells.specs.Counts.{counts}
 use Rattle.signals.specs.Signals.{ruleOf, value}
 use Rattle.flows.specs.Terms.{signed}
-use Rattle.flows.specs.Flows.{Cancels, entry, acceptedSum}
+use Rattle.flows.specs.Flows.{CancelsInside, entry, acceptedSum}
 use Rattle.flows.specs.Verdict.{WellFormed, SomeWeight}
 use Rattle.stepping.specs.Calls.{startVerdict, stateAfterStart, stepVerdict, runVerdict}
 use Rattle.checking.specs.Check.{checkVerdict, checkConstant, weightsAfterCheck, bytesAfterCheck}
@@ -66,10 +66,10 @@ ConstantSums = (file p : List ℕ) (space : ℕ) → checkVerdict file p space �
     → (state : List ℕ) → startVerdict file (length state) ≡ Accepted
     → (calls : List Call) → acceptedSum (netlistIn file) p (counts (stateAfterAll file calls (stateAfterStart file state))) ≡ checkConstant file p space
 
--- A proposal is accepted exactly when every flow cancels and some queue keeps a weight other than 0: both files well formed, space given.
+-- A proposal is accepted exactly when every flow inside the sets cancels and some queue keeps a weight other than 0: both files well formed, space given.
 abbrev pub AcceptedExactly : Type 0
 AcceptedExactly = (file p : List ℕ) (space : ℕ) → firstRefusal (fileTests file) ≡ Accepted → WellFormed (netlistIn file) p → 8 * netlistIn file .components ≤ space
-    → (checkVerdict file p space ≡ Accepted) ↔ (Cancels (netlistIn file) p × SomeWeight (netlistIn file) p)
+    → (checkVerdict file p space ≡ Accepted) ↔ (CancelsInside (netlistIn file) p × SomeWeight (netlistIn file) p)
 
 -- after an accepted start no call of the list is refused because of the state, by 21 or 22
 abbrev pub GoodAlways : Type 0

@@ -3,3 +3,4 @@ pub mod Ceiling
 pub mod Many
 pub mod Persistent
 pub mod RunningSum
+pub mod Reach

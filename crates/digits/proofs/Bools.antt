@@ -17,3 +17,14 @@ and-false false = refl
 pub or-false : (a b : Bool) → (a || b) ≡ false → (a ≡ false) × (b ≡ false)
 or-false true b e = absurd (true≢false e)
 or-false false b e = (refl, e)
+
+-- a conjunction of what is true, a disjunction with it
+pub both-true : {a b : Bool} → a ≡ true → b ≡ true → (a && b) ≡ true
+both-true e q = rw (e, q)
+
+pub or-left : (a b : Bool) → a ≡ true → (a || b) ≡ true
+or-left a b e = rw e
+
+pub or-right : (a b : Bool) → b ≡ true → (a || b) ≡ true
+or-right true b e = refl
+or-right false b e = e

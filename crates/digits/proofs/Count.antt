@@ -48,3 +48,40 @@ count-only p (suc n) c e he te d hd td = go (p n) refl (eq-or-lt-of-le (le-of-su
     go false q (inl s) r again = absurd (false≢true (sym q ∙ ap p (sym s) ∙ te))
     go false q (inr s) (inl r) again = absurd (false≢true (sym q ∙ ap p (sym r) ∙ td))
     go false q (inr s) (inr r) again = again (sym (count-no p n q) ∙ c) s r
+
+pub count-le : (p : ℕ → Bool) (n : ℕ) → count p n ≤ n
+unfolding count
+count-le p zero = omega arith
+count-le p (suc n) = go (p n) refl (count-le p n)
+  where
+    go : (b : Bool) → p n ≡ b → count p n ≤ n → count p (suc n) ≤ suc n
+    go true q l = omega (arith, count-yes p n q)
+    go false q l = omega (arith, count-no p n q)
+
+-- where all that pass one test pass another, the other counts as many, and more where one is new
+module _ (p q : ℕ → Bool) where
+  pub count-more : (n : ℕ) → ((j : ℕ) → j < n → p j ≡ true → q j ≡ true) → count p n ≤ count q n
+  count-more zero h = omega (arith, count-none p zero (λ j l. absurd (omega arith)))
+  count-more (suc n) h = go (p n) refl (q n) refl (count-more n (λ j l. h j (omega arith)))
+    where
+      go : (a : Bool) → p n ≡ a → (b : Bool) → q n ≡ b → count p n ≤ count q n → count p (suc n) ≤ count q (suc n)
+      go true s true r l = omega (arith, count-yes p n s, count-yes q n r)
+      go true s false r l = absurd (false≢true (sym r ∙ h n (omega arith) s))
+      go false s true r l = omega (arith, count-no p n s, count-yes q n r)
+      go false s false r l = omega (arith, count-no p n s, count-no q n r)
+
+  pub count-new : (n : ℕ) → ((j : ℕ) → j < n → p j ≡ true → q j ≡ true) → (v : ℕ) → v < n → p v ≡ false → q v ≡ true → count p n < count q n
+  count-new zero h v l s r = absurd (omega arith)
+  count-new (suc n) h v l s r = go (eq-or-lt-of-le (le-of-suc-le-suc l)) (p n) refl (q n) refl (count-more n below) (λ m. count-new n below v m s r)
+    where
+      below : (j : ℕ) → j < n → p j ≡ true → q j ≡ true
+      below j m = h j (omega arith)
+
+      go : (v ≡ n) ⊎ (v < n) → (a : Bool) → p n ≡ a → (b : Bool) → q n ≡ b → count p n ≤ count q n → (v < n → count p n < count q n) → count p (suc n) < count q (suc n)
+      go (inl e) true s′ b r′ m again = absurd (false≢true (sym s ∙ ap p e ∙ s′))
+      go (inl e) false s′ true r′ m again = omega (arith, count-no p n s′, count-yes q n r′)
+      go (inl e) false s′ false r′ m again = absurd (false≢true (sym r′ ∙ ap q (sym e) ∙ r))
+      go (inr e) true s′ true r′ m again = omega (arith, count-yes p n s′, count-yes q n r′, again e)
+      go (inr e) true s′ false r′ m again = absurd (false≢true (sym r′ ∙ h n (omega arith) s′))
+      go (inr e) false s′ true r′ m again = omega (arith, count-no p n s′, count-yes q n r′, again e)
+      go (inr e) false s′ false r′ m again = omega (arith, count-no p n s′, count-no q n r′, again e)

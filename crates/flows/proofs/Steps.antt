@@ -1,4 +1,4 @@
--- Where every flow cancels, a step that keeps the equations keeps the accepted sum. Assumes nothing.
+-- Where every flow inside the sets cancels, a step that keeps the equations and moves nothing outside the sets keeps the accepted sum. Assumes nothing.
 use mathlib.Core.Path.{_≡_, refl, sym, ap, _∙_}
 use mathlib.Core.Bool.{Bool, true, false, cond, _&&_, true≢false}
 use mathlib.Core.List.{List}
@@ -7,9 +7,10 @@ use native.Mathlib.Omega.{arith}
 use lib.Dec.{eqb}
 use lib.IntN.{ℤ, pos, negℤ, _+ℤ_, _-ℤ_, _*ℤ_, +ℤ-idl, +ℤ-idr, +ℤ-assoc, +ℤ-invl, zero-*ℤ, *ℤ-zero, *ℤ-comm, *ℤ-one, one}
 use borrow.Author.Tests.{lt-ltb, eqb-true, eq-eqb}
-use Rattle.integers.specs.Sum.{sumTo}
+use Rattle.digits.proofs.Bools.{both-true}
+use Rattle.integers.specs.Sum.{sumTo, isZero}
 use Rattle.integers.proofs.Ring.{distrib-l, neg-*ℤ}
-use Rattle.integers.proofs.Sum.{sum-cong, sum-zero, sum-add, sum-only, sum-minus, one-*ℤ, cond-zero}
+use Rattle.integers.proofs.Sum.{sum-cong, sum-zero, sum-add, sum-only, sum-minus, one-*ℤ, cond-zero, zero-is, is-zero}
 use Rattle.integers.proofs.Lines.{by-lines-2}
 use Rattle.component.specs.Kind.{isQueue}
 use Rattle.component.specs.Row.{kind}
@@ -18,8 +19,8 @@ use Rattle.netlist.specs.Accepted.{AcceptedNetlist}
 use Rattle.equations.specs.Equations.{sideIf, hasEquation, side, factor}
 use Rattle.equations.proofs.Queues.{queue-low, queue-has, known-place}
 use Rattle.flows.specs.Terms.{terms, componentOf, index, multiplier}
-use Rattle.flows.specs.Flows.{flowSum, Cancels, weight, acceptedSum}
-use Rattle.flows.specs.Steps.{flowChange, countChange, Holds, History, none, then}
+use Rattle.flows.specs.Flows.{flowSum, CancelsInside, weight, acceptedSum}
+use Rattle.flows.specs.Steps.{flowChange, countChange, Holds, MovedInside}
 
 -- a - b is 0
 differ : (a b : ℤ) → a -ℤ b ≡ pos 0 → a ≡ b
@@ -55,11 +56,8 @@ module _ (f : Netlist) (h : AcceptedNetlist f) (p : List ℕ) (moved : ℕ → �
 
   on : (k i : ℕ) → countIn f k i k i *ℤ grows k i ≡ countChange f k i n n′
   unfolding countIn countChange grows
-  on k i = ap (λ (b : Bool). cond (isQueue (kind (rowOf f k))) (cond b (pos 1) (pos 0)) (pos 0) *ℤ grows k i) (both (eq-eqb k k refl) (eq-eqb i i refl)) ∙ go (isQueue (kind (rowOf f k)))
+  on k i = ap (λ (b : Bool). cond (isQueue (kind (rowOf f k))) (cond b (pos 1) (pos 0)) (pos 0) *ℤ grows k i) (both-true (eq-eqb k k refl) (eq-eqb i i refl)) ∙ go (isQueue (kind (rowOf f k)))
     where
-      both : {a b : Bool} → a ≡ true → b ≡ true → (a && b) ≡ true
-      both ea eb = rw (ea, eb)
-
       go : (b : Bool) → cond b (pos 1) (pos 0) *ℤ grows k i ≡ cond b (pos (n′ k i) -ℤ pos (n k i)) (pos 0)
       go true = one-*ℤ (grows k i)
       go false = zero-*ℤ (grows k i)
@@ -133,40 +131,43 @@ module _ (f : Netlist) (h : AcceptedNetlist f) (p : List ℕ) (moved : ℕ → �
             (λ k l. term k (eqb (componentOf p k) q && eqb (index p k) d))
         go false = sym (sum-zero (terms p) (λ k. multiplier p k *ℤ pos 0) (λ k l. *ℤ-zero (multiplier p k)))
 
+    -- a flow that does not cancel is not inside, and nothing of it moved
+    flow-zero : CancelsInside f p → MovedInside f moved → (x d : ℕ) → x < f .channels → d < f .colours → flowSum f p x d *ℤ moved x d ≡ pos 0
+    flow-zero c i x d l m = go (isZero (moved x d)) refl
+      where
+        go : (b : Bool) → isZero (moved x d) ≡ b → flowSum f p x d *ℤ moved x d ≡ pos 0
+        go true e = ap (λ (z : ℤ). flowSum f p x d *ℤ z) (zero-is (moved x d) e) ∙ *ℤ-zero (flowSum f p x d)
+        go false e = ap (λ (z : ℤ). z *ℤ moved x d) (c x d l m (i .inside x d l m (λ z. true≢false (sym (is-zero (moved x d) z) ∙ e)))) ∙ zero-*ℤ (moved x d)
+
     -- the flows, by terms
-    flows-zero : Cancels f p → sumTo (terms p) (λ k. multiplier p k *ℤ flowChange f (componentOf p k) (index p k) moved) ≡ pos 0
+    flows-zero : CancelsInside f p → MovedInside f moved → sumTo (terms p) (λ k. multiplier p k *ℤ flowChange f (componentOf p k) (index p k) moved) ≡ pos 0
     unfolding flowChange flowSum
-    flows-zero c =
+    flows-zero c i =
         sym (by-lines-2 (terms p) (multiplier p) (f .channels) (f .colours) (λ k x d. factor f (componentOf p k) (index p k) x d) moved)
         ∙ sum-zero (f .channels) (λ x. sumTo (f .colours) (λ d. flowSum f p x d *ℤ moved x d))
-        (λ x l. sum-zero (f .colours) (λ d. flowSum f p x d *ℤ moved x d) (λ d m. ap (λ (z : ℤ). z *ℤ moved x d) (c x d l m) ∙ zero-*ℤ (moved x d)))
+        (λ x l. sum-zero (f .colours) (λ d. flowSum f p x d *ℤ moved x d) (λ d m. flow-zero c i x d l m))
 
     -- the counts, by terms
-    weighted-zero : Cancels f p → sumTo (f .components) (λ q. sumTo (f .colours) (λ d. weight f p q d *ℤ grows q d)) ≡ pos 0
+    weighted-zero : CancelsInside f p → MovedInside f moved → sumTo (f .components) (λ q. sumTo (f .colours) (λ d. weight f p q d *ℤ grows q d)) ≡ pos 0
     unfolding count-side
-    weighted-zero c =
+    weighted-zero c i =
         sum-cong (f .components) (λ q. sumTo (f .colours) (λ d. weight f p q d *ℤ grows q d)) (λ q. sumTo (f .colours) (λ d. sumTo (terms p) (λ k. multiplier p k *ℤ countIn f (componentOf p k) (index p k) q d) *ℤ grows q d))
         (λ q l. sum-cong (f .colours) (λ d. weight f p q d *ℤ grows q d) (λ d. sumTo (terms p) (λ k. multiplier p k *ℤ countIn f (componentOf p k) (index p k) q d) *ℤ grows q d)
         (λ d m. ap (λ (z : ℤ). z *ℤ grows q d) (weight-column q d)))
         ∙ by-lines-2 (terms p) (multiplier p) (f .components) (f .colours) (λ k q d. countIn f (componentOf p k) (index p k) q d) grows
         ∙ sym (+ℤ-idl (sumTo (terms p) (λ k. multiplier p k *ℤ count-side (componentOf p k) (index p k))))
-        ∙ ap (λ (z : ℤ). z +ℤ sumTo (terms p) (λ k. multiplier p k *ℤ count-side (componentOf p k) (index p k))) (sym (flows-zero c))
+        ∙ ap (λ (z : ℤ). z +ℤ sumTo (terms p) (λ k. multiplier p k *ℤ count-side (componentOf p k) (index p k))) (sym (flows-zero c i))
         ∙ sym (sum-add (terms p) (λ k. multiplier p k *ℤ flowChange f (componentOf p k) (index p k) moved) (λ k. multiplier p k *ℤ count-side (componentOf p k) (index p k)))
         ∙ sum-zero (terms p) (λ k. multiplier p k *ℤ flowChange f (componentOf p k) (index p k) moved +ℤ multiplier p k *ℤ count-side (componentOf p k) (index p k))
         (λ k l. sym (distrib-l (multiplier p k) (flowChange f (componentOf p k) (index p k) moved) (count-side (componentOf p k) (index p k)))
         ∙ ap (λ (z : ℤ). multiplier p k *ℤ z) (kept (componentOf p k) (index p k)) ∙ *ℤ-zero (multiplier p k))
 
     -- the accepted sum after a step equals that before it
-    pub step-constant : Cancels f p → acceptedSum f p n′ ≡ acceptedSum f p n
+    pub step-constant : CancelsInside f p → MovedInside f moved → acceptedSum f p n′ ≡ acceptedSum f p n
     unfolding acceptedSum grows
-    step-constant c = differ (acceptedSum f p n′) (acceptedSum f p n)
+    step-constant c i = differ (acceptedSum f p n′) (acceptedSum f p n)
         (sym (sum-less (f .components) (λ q. sumTo (f .colours) (λ d. weight f p q d *ℤ pos (n′ q d))) (λ q. sumTo (f .colours) (λ d. weight f p q d *ℤ pos (n q d))))
         ∙ sum-cong (f .components) (λ q. sumTo (f .colours) (λ d. weight f p q d *ℤ pos (n′ q d)) -ℤ sumTo (f .colours) (λ d. weight f p q d *ℤ pos (n q d))) (λ q. sumTo (f .colours) (λ d. weight f p q d *ℤ grows q d))
         (λ q l. sym (sum-less (f .colours) (λ d. weight f p q d *ℤ pos (n′ q d)) (λ d. weight f p q d *ℤ pos (n q d)))
         ∙ sum-cong (f .colours) (λ d. weight f p q d *ℤ pos (n′ q d) -ℤ weight f p q d *ℤ pos (n q d)) (λ d. weight f p q d *ℤ grows q d) (λ d m. sym (mul-minus (weight f p q d) (pos (n′ q d)) (pos (n q d)))))
-        ∙ weighted-zero c)
-
--- and so after steps in a row
-pub steps-constant : (f : Netlist) → AcceptedNetlist f → (p : List ℕ) → Cancels f p → {n n′ : ℕ → ℕ → ℕ} → History f n n′ → acceptedSum f p n′ ≡ acceptedSum f p n
-steps-constant f h p c none = refl
-steps-constant f h p c (then {n} {n′} moved t ts) = steps-constant f h p c ts ∙ step-constant f h p moved n n′ t c
+        ∙ weighted-zero c i)

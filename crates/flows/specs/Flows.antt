@@ -9,6 +9,7 @@ use Rattle.integers.specs.Sum.{sumTo}
 use Rattle.component.specs.Kind.{isQueue}
 use Rattle.component.specs.Row.{kind, filling, fillColour}
 use Rattle.netlist.specs.Netlist.{Netlist, rowOf}
+use Rattle.reach.specs.Reaches.{Reaches}
 use Rattle.equations.specs.Equations.{factor}
 use Rattle.flows.specs.Terms.{terms, componentOf, index, multiplier}
 
@@ -16,9 +17,9 @@ use Rattle.flows.specs.Terms.{terms, componentOf, index, multiplier}
 unfoldable pub flowSum : Netlist → List ℕ → ℕ → ℕ → ℤ
 flowSum f p x d = sumTo (terms p) (λ k. multiplier p k *ℤ factor f (componentOf p k) (index p k) x d)
 
--- A flow is one L(x,d), x below M and d below C. It cancels if that adds up to 0.
-abbrev pub Cancels : Netlist → List ℕ → Type 0
-Cancels f p = (x d : ℕ) → x < f .channels → d < f .colours → flowSum f p x d ≡ pos 0
+-- A flow is one L(x,d), x below M and d below C. It cancels if that adds up to 0. Every flow inside the sets cancels, whether or not a run ever moves it:
+abbrev pub CancelsInside : Netlist → List ℕ → Type 0
+CancelsInside f p = (x d : ℕ) → x < f .channels → d < f .colours → Reaches f x d → flowSum f p x d ≡ pos 0
 
 -- The weight of n(q,d) is the sum of the multipliers of the terms that name queue q and index d.
 unfoldable pub weight : Netlist → List ℕ → ℕ → ℕ → ℤ

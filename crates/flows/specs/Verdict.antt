@@ -16,6 +16,7 @@ use Rattle.refusals.specs.declared.Refusal.the-variants.{ProposalLength, NoEqua
 use Rattle.refusals.specs.declared.Verdict.{Verdict}
 use Rattle.refusals.specs.declared.Verdict.the-variants.{Accepted, Refused}
 use Rattle.netlist.specs.Netlist.{Netlist}
+use Rattle.reach.specs.Rounds.{reachable}
 use Rattle.equations.specs.Equations.{hasEquation}
 use Rattle.flows.specs.Terms.{terms, componentOf, index, mostTerms}
 use Rattle.flows.specs.Flows.{flowSum, weight, entry, constant}
@@ -31,9 +32,9 @@ badTerm f p k = not (hasEquation f (componentOf p k) (index p k))
 abbrev pub firstBadTerm : Netlist → List ℕ → ℕ
 firstBadTerm f p = least (badTerm f p) (terms p)
 
--- 13 a flow left (8 times channel plus colour, lowest)
+-- 13 a flow left inside the sets (8 times channel plus colour, lowest)
 unfoldable pub isLeft : Netlist → List ℕ → ℕ → Bool
-isLeft f p v = ltb (v % 8) (f .colours) && not (isZero (flowSum f p (v / 8) (v % 8)))
+isLeft f p v = ltb (v % 8) (f .colours) && (not (isZero (flowSum f p (v / 8) (v % 8))) && reachable f (v / 8) (v % 8))
 
 abbrev pub lowestLeft : Netlist → List ℕ → ℕ
 lowestLeft f p = least (isLeft f p) (8 * f .channels)

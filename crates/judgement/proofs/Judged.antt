@@ -14,7 +14,7 @@ use Rattle.digits.proofs.Least.{least-same}
 use Rattle.digits.proofs.UpTo.{upTo-cong}
 use Rattle.integers.specs.Sum.{sumTo, isZero}
 use Rattle.integers.specs.Tables.{Near}
-use Rattle.integers.proofs.Sum.{sum-cong, sum-only, is-zero}
+use Rattle.integers.proofs.Sum.{sum-cong, sum-only}
 use Rattle.refusals.specs.Refusals.{test, firstRefusal}
 use Rattle.refusals.specs.Room.{roomFor}
 use Rattle.refusals.specs.declared.Refusal.{Refusal}
@@ -29,29 +29,15 @@ use Rattle.component.specs.Limits.{mostEntries}
 use Rattle.component.proofs.ByKind.{row-queue}
 use Rattle.netlist.specs.Netlist.{Netlist, rowOf}
 use Rattle.netlist.specs.Accepted.{AcceptedNetlist}
+use Rattle.reach.specs.Rounds.{reachable}
 use Rattle.flows.specs.Terms.{terms, mostTerms}
 use Rattle.flows.specs.Flows.{flowSum, weight, entry, acceptedSum, startCount, constant}
 use Rattle.flows.specs.Verdict.{badLength, firstBadTerm, isLeft, lowestLeft, isWeight, weightless, judgeTests, judged, judgedWithin, constantBy, tableBy, bytesBy, weightByte}
 use Rattle.flows.proofs.Weights.{weight-other, entry-weight}
 use Rattle.sums.specs.Sums.{Added, termsVerdict}
 use Rattle.sums.proofs.Sums.{never, flows-sum, counts-sum}
-use Rattle.judgement.specs.Judged.{notZero, Zeros, sumsVerdict, shareOf, orZero, Weighed, bytesWhere}
-
--- ---- the search for an entry that is not 0
-pub zeros-none : (s : List ℤ) → Zeros s 0
-zeros-none s = record { zeros = λ j l. absurd (none-below j l) }
-  where
-    none-below : (j : ℕ) → j < 0 → ⊥
-    none-below j l = omega arith
-
-pub zeros-more : {s : List ℤ} {n : ℕ} → Zeros s n → getD s n (pos 0) ≡ pos 0 → Zeros s (n + 1)
-zeros-more {s} {n} z e = record { zeros = λ j l. by-test j l (ltb j n) refl }
-  where
-    by-test : (j : ℕ) → j < n + 1 → (b : Bool) → ltb j n ≡ b → notZero s j ≡ false
-    by-test j l true q = z .zeros j (ltb-true j n q)
-    by-test j l false q =
-        let k : j ≡ n = omega (arith, ltb-false j n q) in
-        ap not (is-zero (getD s j (pos 0)) (ap (λ (i : ℕ). getD s i (pos 0)) k ∙ e))
+use Rattle.leftover.specs.Leftover.{notZero, leftInside}
+use Rattle.judgement.specs.Judged.{sumsVerdict, shareOf, orZero, Weighed, bytesWhere}
 
 -- ---- the constant
 module _ (t : List ℕ) (w : List ℤ) (q : ℕ) {x : ℕ} (ex : x ≡ kindNumber (row t q)) where
@@ -66,10 +52,10 @@ module _ (t : List ℕ) (w : List ℤ) (q : ℕ) {x : ℕ} (ex : x ≡ kindNumbe
   share-is {y} {z} e ey ez = ap₂ (λ (c n : ℕ). getD w (8 * q + c) (pos 0) *ℤ pos n) ez ey ∙ share-by (eq-eqb x 2 e)
 
 -- ---- what the tables tell
-not-zero-if : (b : Bool) (z : ℤ) → not (isZero (cond b z (pos 0))) ≡ (b && not (isZero z))
+left-if : (b : Bool) (z : ℤ) (r : Bool) → (not (isZero (cond b z (pos 0))) && r) ≡ (b && (not (isZero z) && r))
 unfolding isZero
-not-zero-if true z = refl
-not-zero-if false z = refl
+left-if true z r = refl
+left-if false z r = refl
 
 share-queue : (f : Netlist) (q : ℕ) (w : List ℤ) → isQueue (kind (rowOf f q)) ≡ true → shareOf (f .table) w q ≡ getD w (8 * q + fillColour (rowOf f q)) (pos 0) *ℤ pos (filling (rowOf f q))
 unfolding shareOf
@@ -80,10 +66,11 @@ unfolding shareOf
 share-other f q w e = ap (λ (b : Bool). cond b (getD w (8 * q + fillColour (rowOf f q)) (pos 0) *ℤ pos (filling (rowOf f q))) (pos 0)) e
 
 module _ (f : Netlist) (h : AcceptedNetlist f) (p : List ℕ) {s w : List ℤ} (a : Added f p (terms p) s w) where
-  left-is : least (notZero s) (8 * f .channels) ≡ lowestLeft f p
-  unfolding isLeft
-  left-is = least-same (notZero s) (isLeft f p) (8 * f .channels)
-      (λ v l. ap (λ (z : ℤ). not (isZero z)) (a .flows .at v (omega (arith, h .facts .fewChannels)) ∙ flows-sum f p v) ∙ not-zero-if (ltb (v % 8) (f .colours)) (flowSum f p (v / 8) (v % 8)))
+  left-is : least (leftInside f s) (8 * f .channels) ≡ lowestLeft f p
+  unfolding isLeft leftInside
+  left-is = least-same (leftInside f s) (isLeft f p) (8 * f .channels)
+      (λ v l. ap (λ (z : ℤ). not (isZero z) && reachable f (v / 8) (v % 8)) (a .flows .at v (omega (arith, h .facts .fewChannels)) ∙ flows-sum f p v)
+      ∙ left-if (ltb (v % 8) (f .colours)) (flowSum f p (v / 8) (v % 8)) (reachable f (v / 8) (v % 8)))
 
   entry-is : (u : ℕ) → u < 8 * f .components → getD w u (pos 0) ≡ entry f p u
   entry-is u l = a .counts .at u (omega (arith, h .facts .fewRows)) ∙ counts-sum f p h u l
@@ -237,18 +224,18 @@ module _ (f : Netlist) (p : List ℕ) {w : List ℤ} (a : Weighed f p w) where
 
 -- ---- the ways out of the search
 module _ (f : Netlist) (s w : List ℤ) where
-  pub sums-flow : {v : ℕ} → v ≡ least (notZero s) (8 * f .channels) → v < 8 * f .channels → Refused (FlowLeft v) ≡ sumsVerdict f s w
+  pub sums-flow : {v : ℕ} → v ≡ least (leftInside f s) (8 * f .channels) → v < 8 * f .channels → Refused (FlowLeft v) ≡ sumsVerdict f s w
   unfolding sumsVerdict
   sums-flow {v} e l = simp (← e, lt-ltb v (8 * f .channels) l)
 
-  module _ (none : 8 * f .channels ≤ least (notZero s) (8 * f .channels)) where
+  module _ (none : 8 * f .channels ≤ least (leftInside f s) (8 * f .channels)) where
     pub sums-weightless : least (notZero w) (8 * f .components) ≡ 8 * f .components → Refused NoWeight ≡ sumsVerdict f s w
     unfolding sumsVerdict
-    sums-weightless e = simp (le-ltb (least (notZero s) (8 * f .channels)) (8 * f .channels) none, eq-eqb (least (notZero w) (8 * f .components)) (8 * f .components) e)
+    sums-weightless e = simp (le-ltb (least (leftInside f s) (8 * f .channels)) (8 * f .channels) none, eq-eqb (least (notZero w) (8 * f .components)) (8 * f .components) e)
 
     pub sums-accepted : (least (notZero w) (8 * f .components) ≡ 8 * f .components → ⊥) → Accepted ≡ sumsVerdict f s w
     unfolding sumsVerdict
-    sums-accepted n = simp (le-ltb (least (notZero s) (8 * f .channels)) (8 * f .channels) none, ne-eqb (least (notZero w) (8 * f .components)) (8 * f .components) n)
+    sums-accepted n = simp (le-ltb (least (leftInside f s) (8 * f .channels)) (8 * f .channels) none, ne-eqb (least (notZero w) (8 * f .components)) (8 * f .components) n)
 
 -- a refusal, where the verdict u says so too, with 0 for the number
 pub refused-or : (u : Verdict) (n : ℤ) {r : Refusal} {v : Verdict} {k : ℤ} → (v ≡ Refused r) × (k ≡ pos 0) → Refused r ≡ u → (v ≡ u) × (k ≡ orZero u n)

@@ -1,6 +1,6 @@
 -- What the code makes of the tables of sums. No part of what a reader must believe; proofs/Judged ties it to `judged`, `entry` and `constant`.
 use mathlib.Core.Path.{_≡_}
-use mathlib.Core.Bool.{Bool, false, cond, not}
+use mathlib.Core.Bool.{cond}
 use mathlib.Core.List.{List, [], _∷_, _++_}
 use Prim.Native.Nat.{ℕ, _+_, _*_, _-_, _^_, _<_}
 use lib.Dec.{ltb, eqb}
@@ -8,7 +8,6 @@ use lib.ListN.{length, getD, drop}
 use lib.IntN.{ℤ, pos, _*ℤ_}
 use Rattle.digits.specs.Least.{least}
 use Rattle.digits.specs.UpTo.{upTo}
-use Rattle.integers.specs.Sum.{isZero}
 use Rattle.integers.specs.Tables.{Near}
 use Rattle.integers.specs.Sign.{aboveZero}
 use Rattle.refusals.specs.Refusals.{test, firstRefusal}
@@ -20,20 +19,13 @@ use Rattle.component.specs.Kind.{isQueue}
 use Rattle.component.specs.Row.{kind, filling, fillColour}
 use Rattle.component.specs.Limits.{mostEntries}
 use Rattle.netlist.specs.Netlist.{Netlist}
+use Rattle.leftover.specs.Leftover.{notZero, leftInside}
 use Rattle.flows.specs.Flows.{entry}
 use Rattle.flows.specs.Verdict.{byteOf, bytesBy}
 
--- entry v of a table is not 0
-abbrev pub notZero : List ℤ → ℕ → Bool
-notZero s v = not (isZero (getD s v (pos 0)))
-
--- the first n entries are 0
-pub record Zeros (s : List ℤ) (n : ℕ) : Type 0 where
-  pub zeros : (j : ℕ) → j < n → notZero s j ≡ false
-
 -- 13 and 14 from the sums of the flows and the weights
 unfoldable pub sumsVerdict : Netlist → List ℤ → List ℤ → Verdict
-sumsVerdict f s w = firstRefusal (test (FlowLeft (least (notZero s) (8 * f .channels))) (ltb (least (notZero s) (8 * f .channels)) (8 * f .channels))
+sumsVerdict f s w = firstRefusal (test (FlowLeft (least (leftInside f s) (8 * f .channels))) (ltb (least (leftInside f s) (8 * f .channels)) (8 * f .channels))
     ∷ test NoWeight (eqb (least (notZero w) (8 * f .components)) (8 * f .components)) ∷ [])
 
 -- one component's share of the constant, of the table and its weights

@@ -1,4 +1,4 @@
-// The verdict on a proposal for a fabric that was read: the search for a flow that is left, the weights and the constant.
+// The verdict on a proposal for a fabric that was read: flows that are left, the weights and the constant.
 ghost use mathlib.Core.Path.{_≡_};
 ghost use Prim.Native.Nat.{_+_, _*_, _%_, _≤_, _<_, _^_};
 ghost use mathlib.Core.Bool.{cond, not, _||_};
@@ -8,7 +8,6 @@ ghost use lib.ListN.{length, getD, drop};
 ghost use lib.IntN.{pos, natAbs};
 ghost use mir.Syntax.{w64};
 ghost use mir.Val.{ofZ};
-ghost use Rattle.digits.specs.Least.{least};
 ghost use Rattle.digits.specs.UpTo.{upTo};
 ghost use Rattle.integers.specs.Sign.{aboveZero};
 ghost use Rattle.integers.specs.Sum.{sumTo};
@@ -21,10 +20,11 @@ ghost use Rattle.component.specs.Row.{fillColour};
 ghost use Rattle.component.specs.Limits.{mostComponents, mostEntries, mostFlows};
 ghost use Rattle.netlist.specs.Netlist.{netlistOf};
 ghost use Rattle.netlist.specs.Accepted.{AcceptedNetlist};
+ghost use Rattle.reach.specs.Known.{Known};
 ghost use Rattle.flows.specs.Verdict.{judged, judgedWithin, constantBy, tableBy, byteOf, weightByte};
 ghost use Rattle.flows.specs.Terms.{mostTerms};
 ghost use Rattle.headroom.specs.Headroom.{owedOf, owed};
-ghost use Rattle.judgement.specs.Judged.{notZero, shareOf, sumsVerdict, orZero, Weighed, weightBy, bytesWhere, bytesUnasked, laid};
+ghost use Rattle.judgement.specs.Judged.{shareOf, sumsVerdict, orZero, Weighed, weightBy, bytesWhere, bytesUnasked, laid};
 use component::MOST_ENTRIES;
 use component::MOST_FLOWS;
 use digits::wide;
@@ -32,19 +32,6 @@ use netlist::Size;
 use refusals::Refusal;
 use refusals::Verdict;
 use sums::MOST_TERMS;
-
-// The lowest of the first n entries that is not 0, or n.
-fn lowest(s: &[i64], n: usize) -> usize
-    requires { ⌜ n ≤ length (now s) ⌝ }
-    ensures { λ r. ⌜ r ≡ least (notZero (now (s .entry))) n ⌝ }
-{
-    for v in 0..n {
-        if s[v] != 0 {
-            return v;
-        }
-    }
-    n
-}
 
 // One component's share of the constant.
 fn share(w: &[i64; MOST_ENTRIES], table: &[u8], q: usize) -> i64
@@ -90,17 +77,24 @@ pub fn refused(r: Refusal) -> Judgement
 }
 
 // 13 and 14 from the sums of all terms, or the constant.
-fn judge_sums(s: &[i64; MOST_FLOWS], w: &[i64; MOST_ENTRIES], table: &[u8], size: Size) -> Judgement
+fn judge_sums(
+    s: &[i64; MOST_FLOWS],
+    w: &[i64; MOST_ENTRIES],
+    table: &[u8],
+    size: Size,
+    sets: &[u8],
+) -> Judgement
     requires { ⌜ AcceptedNetlist (netlistOf size (now table)) ⌝ }
+    requires { ⌜ Known (netlistOf size (now table)) (now sets) ⌝ }
     requires { ⌜ (length (now s) ≡ mostFlows) × Near mostEntries (2 ^ 40) (now w) ⌝ }
     ensures { λ r. ⌜ (r .verdict ≡ sumsVerdict (netlistOf size (now (table .entry))) (now (s .entry)) (now (w .entry)))
         × (r .constant ≡ orZero (sumsVerdict (netlistOf size (now (table .entry))) (now (s .entry)) (now (w .entry))) (sumTo (size .components) (shareOf (now (table .entry)) (now (w .entry))))) ⌝ }
 {
-    let left = lowest(s, 8 * size.channels);
+    let left = leftover::flow_left(s, table, size, sets);
     if left < 8 * size.channels {
         return refused(Refusal::FlowLeft(left));
     }
-    let some = lowest(w, 8 * size.components);
+    let some = leftover::lowest(w, 8 * size.components);
     if some == 8 * size.components {
         return refused(Refusal::NoWeight);
     }
@@ -119,8 +113,15 @@ fn bad_length(n: usize) -> bool
 }
 
 // The verdict on a proposal, and its weights in memory that comes in as zeros.
-fn weigh(table: &[u8], size: Size, proposal: &[u8], w: &mut [i64; MOST_ENTRIES]) -> Judgement
+fn weigh(
+    table: &[u8],
+    size: Size,
+    sets: &[u8],
+    proposal: &[u8],
+    w: &mut [i64; MOST_ENTRIES],
+) -> Judgement
     requires { ⌜ AcceptedNetlist (netlistOf size (now table)) ⌝ }
+    requires { ⌜ Known (netlistOf size (now table)) (now sets) ⌝ }
     requires { ⌜ Summed mostEntries (λ u. pos 0) (now w) ⌝ }
     ensures verdict { λ r. ⌜ (r .verdict ≡ judged (netlistOf size (now (table .entry))) (now (proposal .entry)))
         × (r .constant ≡ constantBy (judged (netlistOf size (now (table .entry))) (now (proposal .entry))) (netlistOf size (now (table .entry))) (now (proposal .entry))) ⌝ }
@@ -133,7 +134,7 @@ fn weigh(table: &[u8], size: Size, proposal: &[u8], w: &mut [i64; MOST_ENTRIES])
     let named = sums::add_terms(&mut s, w, table, size, proposal);
     match named {
         Verdict::Refused(r) => refused(r),
-        Verdict::Accepted => judge_sums(&s, w, table, size),
+        Verdict::Accepted => judge_sums(&s, w, table, size, sets),
     }
 }
 
@@ -150,14 +151,21 @@ fn with_room(j: Judgement, space: usize, need: usize) -> Judgement
 }
 
 // The judgement with room for as many entries as a lent table has; the weights go into it.
-pub fn judge(table: &[u8], size: Size, proposal: &[u8], weights: &mut [i64]) -> Judgement
+pub fn judge(
+    table: &[u8],
+    size: Size,
+    sets: &[u8],
+    proposal: &[u8],
+    weights: &mut [i64],
+) -> Judgement
     requires { ⌜ AcceptedNetlist (netlistOf size (now table)) ⌝ }
+    requires { ⌜ Known (netlistOf size (now table)) (now sets) ⌝ }
     ensures { λ r. ⌜ (r .verdict ≡ judgedWithin (netlistOf size (now (table .entry))) (now (proposal .entry)) (length (now (weights .entry))))
         × (r .constant ≡ constantBy (judgedWithin (netlistOf size (now (table .entry))) (now (proposal .entry)) (length (now (weights .entry)))) (netlistOf size (now (table .entry))) (now (proposal .entry)))
         × (now (weights .exit) ≡ tableBy (judgedWithin (netlistOf size (now (table .entry))) (now (proposal .entry)) (length (now (weights .entry)))) (netlistOf size (now (table .entry))) (now (proposal .entry)) (now (weights .entry))) ⌝ }
 {
     let mut w = [0i64; MOST_ENTRIES];
-    let j = weigh(table, size, proposal, &mut w);
+    let j = weigh(table, size, sets, proposal, &mut w);
     let n = 8 * size.components;
     let judged = with_room(j, weights.len(), n);
     let found = judged.verdict;
@@ -211,12 +219,14 @@ fn asked(j: Judgement, w: &[i64; MOST_ENTRIES], table: &[u8], size: Size, u: usi
 pub fn judge_entry(
     table: &[u8],
     size: Size,
+    sets: &[u8],
     proposal: &[u8],
     space: usize,
     out: &mut [u8],
     u: usize,
 ) -> Weighing
     requires { ⌜ AcceptedNetlist (netlistOf size (now table)) ⌝ }
+    requires { ⌜ Known (netlistOf size (now table)) (now sets) ⌝ }
     ensures { λ r. ⌜ (r .judgement .verdict ≡ judgedWithin (netlistOf size (now (table .entry))) (now (proposal .entry)) space)
         × (r .judgement .constant ≡ constantBy (judgedWithin (netlistOf size (now (table .entry))) (now (proposal .entry)) space) (netlistOf size (now (table .entry))) (now (proposal .entry)))
         × (now (out .exit) ≡ bytesUnasked u (judgedWithin (netlistOf size (now (table .entry))) (now (proposal .entry)) space) (netlistOf size (now (table .entry))) (now (proposal .entry)) (now (out .entry)))
@@ -225,7 +235,7 @@ pub fn judge_entry(
     ensures near { λ r. ⌜ r .owed ≤ 2 ^ 58 ⌝ }
 {
     let mut w = [0i64; MOST_ENTRIES];
-    let j = weigh(table, size, proposal, &mut w);
+    let j = weigh(table, size, sets, proposal, &mut w);
     let n = 8 * size.components;
     let judged = with_room(j, space, n);
     let found = judged.verdict;
@@ -248,16 +258,18 @@ pub fn judge_entry(
 pub fn judge_bytes(
     table: &[u8],
     size: Size,
+    sets: &[u8],
     proposal: &[u8],
     space: usize,
     out: &mut [u8],
 ) -> Judgement
     requires { ⌜ AcceptedNetlist (netlistOf size (now table)) ⌝ }
+    requires { ⌜ Known (netlistOf size (now table)) (now sets) ⌝ }
     ensures { λ r. ⌜ (r .verdict ≡ judgedWithin (netlistOf size (now (table .entry))) (now (proposal .entry)) space)
         × (r .constant ≡ constantBy (judgedWithin (netlistOf size (now (table .entry))) (now (proposal .entry)) space) (netlistOf size (now (table .entry))) (now (proposal .entry)))
         × (now (out .exit) ≡ bytesWhere (judgedWithin (netlistOf size (now (table .entry))) (now (proposal .entry)) space) (netlistOf size (now (table .entry))) (now (proposal .entry)) (now (out .entry))) ⌝ }
 {
-    judge_entry(table, size, proposal, space, &mut *out, MOST_ENTRIES).judgement
+    judge_entry(table, size, sets, proposal, space, &mut *out, MOST_ENTRIES).judgement
 }
 
 // The first n entries into a lent table.

@@ -6,6 +6,7 @@ ghost use Rattle.refusals.specs.Refusals.{numberOf, placeOf};
 ghost use Rattle.reader.specs.Reading.{verdictOf, coloursOf, channelsOf};
 ghost use Rattle.fabric.specs.Calls.{unpacked, unpackedTable, packed, packedInto};
 ghost use Rattle.stepping.specs.Calls.{startVerdict, stateAfterStart, stepVerdict, stateAfterStep, movesAfterStep, runVerdict, stateAfterRun};
+ghost use Rattle.reaching.specs.Reach.{reachVerdict, setsAfterReach};
 ghost use Rattle.checking.specs.Check.{checkVerdict, checkConstant, bytesAfterCheck};
 ghost use Rattle.ceiling.specs.Ceiling.{ceilingVerdict, ceilingValue};
 ghost use Rattle.many.specs.Many.{manyVerdict, bytesAfterMany};
@@ -108,6 +109,21 @@ pub extern "C" fn fabric_run_place(fabric: &[u8], state: &[u8], choices: &[u8]) 
     ensures { λ r. ⌜ r ≡ placeOf (runVerdict (now (fabric .entry)) (now (state .entry)) (now (choices .entry))) ⌝ }
 {
     refusals::place_of(stepping::run_answer(fabric, state, choices)) as u64
+}
+
+#[no_mangle]
+pub extern "C" fn fabric_reach(fabric: &[u8], sets: &mut [u8]) -> u32
+    ensures { λ r. ⌜ (r ≡ numberOf (reachVerdict (now (fabric .entry)) (length (now (sets .entry)))))
+        × (now (sets .exit) ≡ setsAfterReach (now (fabric .entry)) (now (sets .entry))) ⌝ }
+{
+    refusals::number_of(reaching::reach(fabric, &mut *sets))
+}
+
+#[no_mangle]
+pub extern "C" fn fabric_reach_place(fabric: &[u8], sets: &[u8]) -> u64
+    ensures { λ r. ⌜ r ≡ placeOf (reachVerdict (now (fabric .entry)) (length (now (sets .entry)))) ⌝ }
+{
+    refusals::place_of(reaching::reach_answer(fabric, sets.len())) as u64
 }
 
 #[no_mangle]

@@ -8,6 +8,7 @@ ghost use Rattle.digits.specs.UpTo.{upTo};
 ghost use Rattle.component.specs.Limits.{mostComponents};
 ghost use Rattle.netlist.specs.Netlist.{netlistOf};
 ghost use Rattle.netlist.specs.Accepted.{AcceptedNetlist};
+ghost use Rattle.reach.specs.Known.{Known};
 ghost use Rattle.flows.specs.Terms.{mostTerms};
 ghost use Rattle.flows.specs.Verdict.{judged, constantBy, weightByte};
 ghost use Rattle.result.specs.Result.{resultSize, entryBy, result, resultBytes, over};
@@ -45,14 +46,15 @@ fn clear_bytes(out: &mut [u8], n: usize)
 }
 
 // The judgement on a block, and its weights in lent entries.
-fn weigh_entries(table: &[u8], size: Size, block: &[u8], out: &mut [i64]) -> Judgement
+fn weigh_entries(table: &[u8], size: Size, sets: &[u8], block: &[u8], out: &mut [i64]) -> Judgement
     requires { ⌜ AcceptedNetlist (netlistOf size (now table)) ⌝ }
+    requires { ⌜ Known (netlistOf size (now table)) (now sets) ⌝ }
     requires { ⌜ 8 * size .components ≤ length (now out) ⌝ }
     ensures { λ r. ⌜ (r .verdict ≡ judged (netlistOf size (now (table .entry))) (now (block .entry)))
         × (r .constant ≡ constantBy (judged (netlistOf size (now (table .entry))) (now (block .entry))) (netlistOf size (now (table .entry))) (now (block .entry)))
         × (now (out .exit) ≡ upTo (8 * size .components) (entryBy (judged (netlistOf size (now (table .entry))) (now (block .entry))) (netlistOf size (now (table .entry))) (now (block .entry))) ++ drop (8 * size .components) (now (out .entry))) ⌝ }
 {
-    let j = judgement::judge(table, size, block, &mut *out);
+    let j = judgement::judge(table, size, sets, block, &mut *out);
     let found = j.verdict;
     match found {
         Verdict::Accepted => j,
@@ -64,14 +66,15 @@ fn weigh_entries(table: &[u8], size: Size, block: &[u8], out: &mut [i64]) -> Jud
 }
 
 // The same in lent bytes, 8 for each entry.
-fn weigh_bytes(table: &[u8], size: Size, block: &[u8], out: &mut [u8]) -> Judgement
+fn weigh_bytes(table: &[u8], size: Size, sets: &[u8], block: &[u8], out: &mut [u8]) -> Judgement
     requires { ⌜ AcceptedNetlist (netlistOf size (now table)) ⌝ }
+    requires { ⌜ Known (netlistOf size (now table)) (now sets) ⌝ }
     requires { ⌜ 8 * (8 * size .components) ≤ length (now out) ⌝ }
     ensures { λ r. ⌜ (r .verdict ≡ judged (netlistOf size (now (table .entry))) (now (block .entry)))
         × (r .constant ≡ constantBy (judged (netlistOf size (now (table .entry))) (now (block .entry))) (netlistOf size (now (table .entry))) (now (block .entry)))
         × (now (out .exit) ≡ upTo (8 * (8 * size .components)) (weightByte (entryBy (judged (netlistOf size (now (table .entry))) (now (block .entry))) (netlistOf size (now (table .entry))) (now (block .entry)))) ++ drop (8 * (8 * size .components)) (now (out .entry))) ⌝ }
 {
-    let j = judgement::judge_bytes(table, size, block, MOST_ENTRIES, &mut *out);
+    let j = judgement::judge_bytes(table, size, sets, block, MOST_ENTRIES, &mut *out);
     let found = j.verdict;
     match found {
         Verdict::Accepted => j,
@@ -83,13 +86,14 @@ fn weigh_bytes(table: &[u8], size: Size, block: &[u8], out: &mut [u8]) -> Judgem
 }
 
 // A block's result into lent entries.
-pub fn put_entries(table: &[u8], size: Size, block: &[u8], out: &mut [i64])
+pub fn put_entries(table: &[u8], size: Size, sets: &[u8], block: &[u8], out: &mut [i64])
     requires { ⌜ AcceptedNetlist (netlistOf size (now table)) ⌝ }
+    requires { ⌜ Known (netlistOf size (now table)) (now sets) ⌝ }
     requires { ⌜ (length (now block) ≤ 4 * mostTerms) × (resultSize (netlistOf size (now table)) ≤ length (now out)) ⌝ }
     ensures { λ _. ⌜ now (out .exit) ≡ over (result (netlistOf size (now (table .entry))) (now (block .entry))) (now (out .entry)) ⌝ }
 {
     let first: usize = 3;
-    let j = weigh_entries(table, size, block, &mut out[first..]);
+    let j = weigh_entries(table, size, sets, block, &mut out[first..]);
     let found = j.verdict;
     let number = refusals::number_of(found) as i64;
     let place = refusals::place_of(found) as i64;
@@ -100,13 +104,14 @@ pub fn put_entries(table: &[u8], size: Size, block: &[u8], out: &mut [i64])
 }
 
 // A block's result into lent bytes.
-pub fn put_bytes(table: &[u8], size: Size, block: &[u8], out: &mut [u8])
+pub fn put_bytes(table: &[u8], size: Size, sets: &[u8], block: &[u8], out: &mut [u8])
     requires { ⌜ AcceptedNetlist (netlistOf size (now table)) ⌝ }
+    requires { ⌜ Known (netlistOf size (now table)) (now sets) ⌝ }
     requires { ⌜ (length (now block) ≤ 4 * mostTerms) × (8 * resultSize (netlistOf size (now table)) ≤ length (now out)) ⌝ }
     ensures { λ _. ⌜ now (out .exit) ≡ over (resultBytes (netlistOf size (now (table .entry))) (now (block .entry))) (now (out .entry)) ⌝ }
 {
     let first: usize = 24;
-    let j = weigh_bytes(table, size, block, &mut out[first..]);
+    let j = weigh_bytes(table, size, sets, block, &mut out[first..]);
     let found = j.verdict;
     judgement::write_entry(&mut *out, 0, refusals::number_of(found) as i64);
     judgement::write_entry(&mut *out, 1, refusals::place_of(found) as i64);

@@ -7,20 +7,23 @@ ghost use Rattle.netlist.specs.Accepted.{AcceptedNetlist};
 ghost use Rattle.blocks.specs.Blocks.{Fills, eachBlock};
 ghost use Rattle.result.specs.Result.{result, resultBytes, over};
 use netlist::Size;
+use spread::SETS_SIZE;
 
-// The results of n blocks that fill a file, into lent entries.
+// The results of n blocks that fill a file, into lent entries. The colour sets are worked out once for all of them.
 pub fn write_results(table: &[u8], size: Size, file: &[u8], n: usize, out: &mut [i64])
     requires { ⌜ AcceptedNetlist (netlistOf size (now table)) ⌝ }
     requires { ⌜ Fills (now file) n × (length (eachBlock (result (netlistOf size (now table))) (now file) n) ≤ length (now out)) ⌝ }
     ensures { λ _. ⌜ now (out .exit) ≡ over (eachBlock (result (netlistOf size (now (table .entry)))) (now (file .entry)) n) (now (out .entry)) ⌝ }
 {
+    let mut sets = [0u8; SETS_SIZE];
+    spread::work_out(table, size, &mut sets);
     let each = result::result_size(size);
     let mut at: usize = 0;
     let mut to: usize = 0;
     for b in 0..n {
         let from = at + 2;
         let end = from + 4 * blocks::term_count(file, at);
-        result::put_entries(table, size, &file[from..end], &mut out[to..]);
+        result::put_entries(table, size, &sets, &file[from..end], &mut out[to..]);
         at = end;
         to += each;
     }
@@ -32,13 +35,15 @@ pub fn write_results_bytes(table: &[u8], size: Size, file: &[u8], n: usize, out:
     requires { ⌜ Fills (now file) n × (length (eachBlock (resultBytes (netlistOf size (now table))) (now file) n) ≤ length (now out)) ⌝ }
     ensures { λ _. ⌜ now (out .exit) ≡ over (eachBlock (resultBytes (netlistOf size (now (table .entry)))) (now (file .entry)) n) (now (out .entry)) ⌝ }
 {
+    let mut sets = [0u8; SETS_SIZE];
+    spread::work_out(table, size, &mut sets);
     let each = 8 * result::result_size(size);
     let mut at: usize = 0;
     let mut to: usize = 0;
     for k in 0..n {
         let from = at + 2;
         let end = from + 4 * blocks::term_count(file, at);
-        result::put_bytes(table, size, &file[from..end], &mut out[to..]);
+        result::put_bytes(table, size, &sets, &file[from..end], &mut out[to..]);
         at = end;
         to += each;
     }

@@ -17,7 +17,7 @@ use Rattle.netlist.specs.Netlist.{Netlist, rowOf}
 use Rattle.netlist.specs.Accepted.{AcceptedFabric}
 use Rattle.signals.specs.Signals.{componentAt, near, ruleOf, value, moved, moves}
 use Rattle.signals.specs.Channels.{movedIn, There}
-use Rattle.signals.proofs.Signals.{giver}
+use Rattle.netlist.proofs.Ends.{giver}
 use Rattle.signals.proofs.Found.{take-le}
 
 -- a take is 0 or 1

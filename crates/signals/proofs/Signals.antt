@@ -1,23 +1,22 @@
 -- All rules hold of the values, and of no others; any order that follows the dependences gives them. Assumes nothing.
 use mathlib.Core.Path.{_≡_, refl, subst, _∙_}
-use mathlib.Core.Bool.{Bool, true, false, _&&_}
+use mathlib.Core.Bool.{Bool, true, false}
 use mathlib.Core.List.{List}
 use Prim.Native.Nat.{ℕ, zero, suc, _+_, _*_, _/_, _%_, _≤_, _<_}
 use native.Mathlib.Decide.{ℕ-discrete}
 use native.Mathlib.Omega.{arith}
-use lib.Dec.{eqb}
 use lib.ListN.{getD}
 use borrow.Author.Tests.{eqb-true, eqb-false, eq-eqb, ne-eqb}
-use Rattle.digits.proofs.Bools.{and-both}
 use Rattle.order.specs.Graph.{Depends, Sorted}
 use Rattle.order.proofs.ByOrder.{by-order}
 use Rattle.order.proofs.Values.{sorted-no-circle, val-rule, val-unique, val-next}
-use Rattle.component.specs.Kind.{Port, A, B, C, portOf, portUse, isOutput, isInput}
+use Rattle.component.specs.Kind.{Port, A, B, C, portUse, isOutput, isInput}
 use Rattle.component.specs.Row.{kind, port}
 use Rattle.wiring.specs.Ends.{endPort, onSide}
 use Rattle.wiring.specs.Signals.{Near, offerA, offerB, takeB, takeC, dependsOn, has, signalOf, nearOf, isOffer, endOf, dependence}
 use Rattle.netlist.specs.Netlist.{Netlist, rowOf}
 use Rattle.netlist.specs.Accepted.{AcceptedFabric}
+use Rattle.netlist.proofs.Ends.{giver, given-side, given-channel, from-output, from-input}
 use Rattle.rules.proofs.Rules.{reads-only}
 use Rattle.signals.specs.Signals.{componentAt, near, ruleAt, ruleOf, value, along}
 
@@ -26,10 +25,6 @@ abbrev pub OfRead : Netlist → (ℕ → Type 0) → ℕ → Port → Type 0
 OfRead f P k p = (n : Near) → has (dependsOn (kind (rowOf f k)) p) n ≡ true → P (signalOf (rowOf f k) n)
 
 module _ (f : Netlist) (ends order : List ℕ) (a : AcceptedFabric f ends order) where
-  -- the component whose rule gives a signal
-  pub giver : (s : ℕ) → s < 2 * f .channels → endOf (f .table) (f .components) s / 3 < f .components
-  giver s h = omega (arith, a .wires .matched .inside s h)
-
   below : (k : ℕ) → k < f .components → (n : Near) → signalOf (rowOf f k) n < 2 * f .channels
   below k h offerA = omega (arith, a .rows k h .ports A)
   below k h offerB = omega (arith, a .rows k h .ports B)
@@ -40,10 +35,10 @@ module _ (f : Netlist) (ends order : List ℕ) (a : AcceptedFabric f ends order)
   depends : (s : ℕ) → s < 2 * f .channels → (n : Near) → has (dependsOn (kind (rowOf f (endOf (f .table) (f .components) s / 3))) (endPort (endOf (f .table) (f .components) s))) n ≡ true →
       Depends (dependence (f .table) (f .components)) (2 * f .channels) s (signalOf (rowOf f (endOf (f .table) (f .components) s / 3)) n)
   unfolding dependence nearOf
-  depends s h offerA i = record { entry = 0; below = omega arith; is = rw i; from = h; to = below _ (giver s h) offerA }
-  depends s h offerB i = record { entry = 1; below = omega arith; is = rw i; from = h; to = below _ (giver s h) offerB }
-  depends s h takeB i = record { entry = 2; below = omega arith; is = rw i; from = h; to = below _ (giver s h) takeB }
-  depends s h takeC i = record { entry = 3; below = omega arith; is = rw i; from = h; to = below _ (giver s h) takeC }
+  depends s h offerA i = record { entry = 0; below = omega arith; is = rw i; from = h; to = below _ (giver f ends order a s h) offerA }
+  depends s h offerB i = record { entry = 1; below = omega arith; is = rw i; from = h; to = below _ (giver f ends order a s h) offerB }
+  depends s h takeB i = record { entry = 2; below = omega arith; is = rw i; from = h; to = below _ (giver f ends order a s h) takeB }
+  depends s h takeC i = record { entry = 3; below = omega arith; is = rw i; from = h; to = below _ (giver f ends order a s h) takeC }
 
   -- what holds of the signal at each port whenever it holds of all that its rule reads, holds of every signal
   pub by-port : (P : ℕ → Type 0) →
@@ -53,27 +48,21 @@ module _ (f : Netlist) (ends order : List ℕ) (a : AcceptedFabric f ends order)
   by-port P offer taken = by-order (dependence (f .table) (f .components)) (2 * f .channels) order (a .wires .sorted) P turn
     where
       turn : (s : ℕ) → s < 2 * f .channels → ((d : ℕ) → Depends (dependence (f .table) (f .components)) (2 * f .channels) s d → P d) → P s
-      turn s h before = go (isOffer s) refl (end .0)
+      turn s h before = go (isOffer s) refl (given-side f ends order a s h)
         where
           e : ℕ
           e = endOf (f .table) (f .components) s
 
-          row : List ℕ
-          row = rowOf f (e / 3)
+          at : port (rowOf f (e / 3)) (endPort e) ≡ s / 2
+          at = given-channel f ends order a s h
 
-          end : (onSide (isOffer s) (portUse (kind row) (endPort e)) ≡ true) × (eqb (port row (endPort e)) (s / 2) ≡ true)
-          end = and-both _ _ (a .wires .matched .is s h)
-
-          at : port row (endPort e) ≡ s / 2
-          at = eqb-true _ _ (end .1)
-
-          go : (b : Bool) → isOffer s ≡ b → onSide b (portUse (kind row) (endPort e)) ≡ true → P s
+          go : (b : Bool) → isOffer s ≡ b → onSide b (portUse (kind (rowOf f (e / 3))) (endPort e)) ≡ true → P s
           go true q o =
-              let i : 2 * port row (endPort e) ≡ s = omega (arith, at, eqb-true (s % 2) 0 q) in
-              subst P i (offer (e / 3) (giver s h) (endPort e) o (λ n r. before _ (depends s h n r)))
+              let i : 2 * port (rowOf f (e / 3)) (endPort e) ≡ s = omega (arith, at, eqb-true (s % 2) 0 q) in
+              subst P i (offer (e / 3) (giver f ends order a s h) (endPort e) o (λ n r. before _ (depends s h n r)))
           go false q o =
-              let i : 2 * port row (endPort e) + 1 ≡ s = omega (arith, at, eqb-false (s % 2) 0 q) in
-              subst P i (taken (e / 3) (giver s h) (endPort e) o (λ n r. before _ (depends s h n r)))
+              let i : 2 * port (rowOf f (e / 3)) (endPort e) + 1 ≡ s = omega (arith, at, eqb-false (s % 2) 0 q) in
+              subst P i (taken (e / 3) (giver f ends order a s h) (endPort e) o (λ n r. before _ (depends s h n r)))
 
   module _ (state choices : List ℕ) where
     -- the rule of a signal reads only what the signal depends on
@@ -117,60 +106,18 @@ module _ (f : Netlist) (ends order : List ℕ) (a : AcceptedFabric f ends order)
         along (ruleOf f state choices) o (2 * f .channels) s ≡ value f state choices s
     value-along o so s h = let q = so .each s h in rw (← (q .2)) (along-found o so (2 * f .channels) (omega arith) (q .0) (q .1))
 
-  -- the end of a component's port
-  portNumber : Port → ℕ
-  portNumber A = 0
-  portNumber B = 1
-  portNumber C = 2
-
-  end-component : (k : ℕ) (p : Port) → (3 * k + portNumber p) / 3 ≡ k
-  unfolding portNumber
-  end-component k A = omega arith
-  end-component k B = omega arith
-  end-component k C = omega arith
-
-  end-port : (k : ℕ) (p : Port) → endPort (3 * k + portNumber p) ≡ p
-  unfolding portNumber portOf
-  end-port k A = let e : (3 * k + 0) % 3 ≡ 0 = omega arith in rw e
-  end-port k B = let e : (3 * k + 1) % 3 ≡ 1 = omega arith in rw e
-  end-port k C = let e : (3 * k + 2) % 3 ≡ 2 = omega arith in rw e
-
-  end-below : (k : ℕ) → k < f .components → (p : Port) → 3 * k + portNumber p < 3 * f .components
-  unfolding portNumber
-  end-below k h A = omega arith
-  end-below k h B = omega arith
-  end-below k h C = omega arith
-
-  and-true : (x y : Bool) → x ≡ true → y ≡ true → (x && y) ≡ true
-  and-true x y p q = rw (p, q)
-
   module _ (k : ℕ) (h : k < f .components) (p : Port) where
-    -- the signal at an output, and at an input port, is given by that port
-    output-end : isOutput (portUse (kind (rowOf f k)) p) ≡ true → 3 * k + portNumber p ≡ endOf (f .table) (f .components) (2 * port (rowOf f k) p)
-    output-end o =
-        let x = port (rowOf f k) p in
-        let e : 2 * x % 2 ≡ 0 = omega arith in
-        let d : 2 * x / 2 ≡ x = omega arith in
-        a .wires .matched .only (2 * x) (3 * k + portNumber p) (omega (arith, a .rows k h .ports p)) (end-below k h p)
-        (rw (e, d, end-component k p, end-port k p) (and-true _ _ o (eq-eqb x x refl)))
-
-    input-end : isInput (portUse (kind (rowOf f k)) p) ≡ true → 3 * k + portNumber p ≡ endOf (f .table) (f .components) (2 * port (rowOf f k) p + 1)
-    input-end o =
-        let x = port (rowOf f k) p in
-        let e : (2 * x + 1) % 2 ≡ 1 = omega arith in
-        let d : (2 * x + 1) / 2 ≡ x = omega arith in
-        a .wires .matched .only (2 * x + 1) (3 * k + portNumber p) (omega (arith, a .rows k h .ports p)) (end-below k h p)
-        (rw (e, d, end-component k p, end-port k p) (and-true _ _ o (eq-eqb x x refl)))
-
     -- the offer on an output port, and the take of an input port, by component
     pub value-output : (state choices : List ℕ) → isOutput (portUse (kind (rowOf f k)) p) ≡ true →
         value f state choices (2 * port (rowOf f k) p) ≡ ruleAt f state choices k p (value f state choices)
     unfolding ruleOf
     value-output state choices o =
-        value-rule state choices (2 * port (rowOf f k) p) (omega (arith, a .rows k h .ports p)) ∙ rw (← output-end o, end-component k p, end-port k p)
+        value-rule state choices (2 * port (rowOf f k) p) (omega (arith, a .rows k h .ports p))
+        ∙ from-output f ends order a k h p (λ j q. ruleAt f state choices j q (value f state choices) ≡ ruleAt f state choices k p (value f state choices)) o refl
 
     pub value-input : (state choices : List ℕ) → isInput (portUse (kind (rowOf f k)) p) ≡ true →
         value f state choices (2 * port (rowOf f k) p + 1) ≡ ruleAt f state choices k p (value f state choices)
     unfolding ruleOf
     value-input state choices o =
-        value-rule state choices (2 * port (rowOf f k) p + 1) (omega (arith, a .rows k h .ports p)) ∙ rw (← input-end o, end-component k p, end-port k p)
+        value-rule state choices (2 * port (rowOf f k) p + 1) (omega (arith, a .rows k h .ports p))
+        ∙ from-input f ends order a k h p (λ j q. ruleAt f state choices j q (value f state choices) ≡ ruleAt f state choices k p (value f state choices)) o refl

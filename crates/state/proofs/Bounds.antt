@@ -20,7 +20,7 @@ use Rattle.rules.proofs.Bounds.{mapped-le}
 use Rattle.plan.specs.Plan.{Planned}
 use Rattle.signals.specs.Channels.{Ready}
 use Rattle.signals.specs.Signals.{componentAt, near, ruleOf, value, moved}
-use Rattle.signals.proofs.Signals.{giver}
+use Rattle.netlist.proofs.Ends.{giver}
 use Rattle.state.specs.Step.{CanStep}
 
 front-le : (n v b : ℕ) → (0 < n → v < b) → when n (suc v) ≤ b

@@ -17,12 +17,13 @@ use crate::words::proposal::of_proposal;
 
 /// Prints all, and writes that with the number, from 1, to proof.bin.
 pub fn propose(folder: &Path, opened: &Opened, number: usize) -> Result<(), Failure> {
-    let SumBasis { sums, left_out } = sum_basis(&opened.netlist.fabric);
-    let lines = checked_lines(opened, &sums)?;
-    if sums.is_empty() {
-        let why = why_none(&opened.netlist.fabric, left_out);
+    let basis = sum_basis(&opened.netlist.fabric);
+    let lines = checked_lines(opened, &basis.sums)?;
+    if basis.sums.is_empty() {
+        let why = why_none(&opened.netlist.fabric, &basis);
         return Err(Failure::Refused(format!("{why}; nothing is written")));
     }
+    let SumBasis { sums, left_out, .. } = basis;
     let terms = sums.get(number - 1).ok_or_else(|| {
         let found = counted(sums.len(), "sum");
         Failure::Input(format!("there is no sum {number}: {found} found"))
@@ -69,13 +70,16 @@ fn write(folder: &Path, number: usize, one: &[Term], all: &[Vec<Term>]) -> Resul
     ))
 }
 
-fn why_none(fabric: &Fabric, left_out: usize) -> String {
+fn why_none(fabric: &Fabric, basis: &SumBasis) -> String {
     if !fabric.components.iter().any(|it| it.kind == Kind::Queue) {
         return "there is no sum, since there is no queue".to_string();
     }
-    match left_out {
-        0 => "there is no sum that the equations show".to_string(),
-        count => format!("there is no sum but {}", too_large(count)),
+    match (basis.left_out, basis.never_queued) {
+        (0, 0) => "there is no sum that the equations show".to_string(),
+        (0, _) => "there is no sum but that some colours never come to a queue, \
+                   as 'panel reach' shows"
+            .to_string(),
+        (count, _) => format!("there is no sum but {}", too_large(count)),
     }
 }
 

@@ -9,6 +9,7 @@ mod digest;
 mod each_dependence;
 mod equations;
 mod held_merges;
+mod inside_the_sets;
 mod kinds;
 mod layout;
 mod listing;
@@ -18,6 +19,7 @@ mod order;
 mod order_of_ceiling;
 mod order_of_check;
 mod order_of_check_many;
+mod order_of_reach;
 mod order_of_step;
 mod panels;
 mod persistence;
@@ -26,6 +28,8 @@ mod places;
 mod proposal_text;
 mod proposals;
 mod ranges;
+mod reach;
+mod reach_in_rounds;
 mod removal;
 mod round_trips;
 mod rounds;
@@ -96,6 +100,18 @@ fn packed(fabric: &Fabric) -> Vec<u8> {
 
 fn function(a: u8, b: u8) -> Component {
     Component::new(Kind::Function, [a, b, 0])
+}
+
+/// A source with these colours.
+fn emits(mask: u8, a: u8) -> Component {
+    Component { mask, ..source(a) }
+}
+
+/// What an accepted reach writes.
+fn sets(fabric: &Fabric) -> Vec<u8> {
+    let mut sets = vec![0xA5; fabric.channels];
+    assert_eq!(crate::reach(&fabric.to_file(), &mut sets), Ok(()));
+    sets
 }
 
 /// The state that start writes.

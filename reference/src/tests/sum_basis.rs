@@ -5,9 +5,14 @@ use crate::check::judged;
 use crate::component::{Kind, MOST_COLOURS};
 use crate::equations::{equation, INDEXES};
 use crate::fabric::Fabric;
+use crate::left::Left;
+use crate::listing;
 use crate::random::Random;
 use crate::random_fabric::{random_fabric, Plan};
-use crate::samples::{credit_loop, credit_terms, doubling_row, function_row, looped_queues};
+use crate::reach::ColourSets;
+use crate::samples::{
+    credit_loop, credit_terms, doubling_row, full_queues, function_row, looped_queues,
+};
 use crate::sum_basis::sum_basis;
 use crate::terms::{write_proposal, Term};
 
@@ -30,15 +35,42 @@ fn no_sum_of_a_row_without_queues() {
 
 #[test]
 fn one_sum_for_each_queue_on_itself() {
-    let found = sum_basis(&looped_queues(128));
+    let found = sum_basis(&full_queues(128));
     let expected: Vec<_> = (0..128).map(|queue| vec![term(queue, 0, 1)]).collect();
     assert_eq!((found.sums, found.left_out), (expected, 0));
+}
+
+/// They are empty, so colour 0 never comes, which is no sum to propose.
+#[test]
+fn none_that_only_says_that_a_colour_never_comes() {
+    let found = sum_basis(&looped_queues(128));
+    assert_eq!((found.sums, found.left_out), (vec![], 0));
+    assert_eq!(found.never_queued, 128);
+}
+
+/// A credit loop in which messages have colour 0 and credits colour 1: the join's index 8 has all colours
+/// of both its inputs, of which two never come.
+#[test]
+fn a_sum_that_needs_the_sets() {
+    let mut fabric = credit_loop();
+    fabric.colours = 2;
+    fabric.components[1].first_map = [0; 8];
+    fabric.components[3].second_map = [1, 1, 0, 0, 0, 0, 0, 0];
+    fabric.components[5].fill_colour = 1;
+    let found = sum_basis(&fabric);
+    assert_eq!((found.sums.len(), found.left_out), (1, 0));
+    let listing = listing(&fabric.to_file(), &write_proposal(&found.sums[0]));
+    assert_eq!(listing, "Q 2 0 1\nQ 5 1 1\nSUM 2\n");
+    let left = Left::of(&fabric, &write_proposal(&found.sums[0]));
+    assert_eq!(left, Left::Outside);
+    // Colour 1 never comes to component 2, nor colour 0 to component 5.
+    assert_eq!(found.never_queued, 2);
 }
 
 #[test]
 fn all_of_random_fabrics_are_accepted_independent_and_all_there_are() {
     let mut all = 0;
-    for number in 0..120 {
+    for number in 0..240 {
         let fabric = random_one(number, &[2, 6, 12, 20]);
         let found = sum_basis(&fabric);
         for terms in &found.sums {
@@ -47,7 +79,7 @@ fn all_of_random_fabrics_are_accepted_independent_and_all_there_are() {
         let weights: Vec<Vec<i64>> = weights_of(&fabric, &found.sums);
         let rows = weights.iter().map(|row| wide(row)).collect();
         assert_eq!(rank(rows), found.sums.len(), "fabric {number}");
-        let there_are = dimension(&fabric);
+        let there_are = dimension(&fabric) - found.never_queued;
         assert_eq!(found.sums.len() + found.left_out, there_are, "{number}");
         all += there_are;
     }
@@ -57,7 +89,7 @@ fn all_of_random_fabrics_are_accepted_independent_and_all_there_are() {
 #[test]
 fn the_largest_fabrics_are_accepted_too() {
     let mut all = 0;
-    for number in 0..40 {
+    for number in 0..50 {
         let fabric = random_one(number, &[128]);
         let found = sum_basis(&fabric);
         for terms in &found.sums {
@@ -84,7 +116,7 @@ fn small_ones_come_first() {
 #[test]
 fn none_is_larger_than_its_sum_or_difference_with_another() {
     let mut pairs = 0;
-    for number in 0..100 {
+    for number in 0..160 {
         let fabric = random_one(number, &[6, 20]);
         let weights = weights_of(&fabric, &sum_basis(&fabric).sums);
         for (place, row) in weights.iter().enumerate() {
@@ -171,16 +203,17 @@ fn size(weights: &[i64]) -> (usize, usize, i64) {
     (weighted.count(), count, total)
 }
 
-/// How many independent sums there are: as many as equations of queues, less what these add to the
-/// rank of all others.
+/// How many independent sums there are, for colours that never come included: as many as equations of
+/// queues, less what these add to the rank of all others.
 fn dimension(fabric: &Fabric) -> usize {
+    let sets = ColourSets::of(fabric);
     let numbers = 0..INDEXES * fabric.components.len();
     let (of_queues, others): (Vec<usize>, Vec<usize>) =
         numbers.partition(|number| fabric.components[number / INDEXES].kind == Kind::Queue);
     let rows = |numbers: Vec<usize>| -> Vec<Vec<i128>> {
         let equations = numbers
             .into_iter()
-            .filter_map(|number| flows(fabric, number));
+            .filter_map(|number| flows(fabric, &sets, number));
         equations.collect()
     };
     let (of_queues, others) = (rows(of_queues), rows(others));
@@ -188,11 +221,14 @@ fn dimension(fabric: &Fabric) -> usize {
     of_queues.len() + rank(others) - rank(all)
 }
 
-fn flows(fabric: &Fabric, number: usize) -> Option<Vec<i128>> {
+/// Those inside the sets.
+fn flows(fabric: &Fabric, sets: &ColourSets, number: usize) -> Option<Vec<i128>> {
     let component = &fabric.components[number / INDEXES];
     let mut row = vec![0; MOST_COLOURS * fabric.channels];
     for (flow, factor) in equation(component, fabric.colours, number % INDEXES)? {
-        row[flow.number()] += i128::from(factor);
+        if sets.has(flow.number()) {
+            row[flow.number()] += i128::from(factor);
+        }
     }
     Some(row)
 }

@@ -1,6 +1,7 @@
 use mathlib.Core.Path.{sym, _∙_}
 use native.Mathlib.Omega.{arith}
 use borrow.Author.Needs.{needs}
+use Rattle.reach.proofs.Known.{known-none}
 use Rattle.reader.proofs.Opened.{opened}
 use Rattle.ceiling.proofs.Answer.{file-refused, file-zero, read-verdict, read-value}
 use Rattle.ceiling.proofs.ceiling.Statement.{statement}
@@ -33,8 +34,13 @@ array-share-prefix-rows c = omega (arith, opened (c .before .before .before .bef
 slice-aggregate-ceiling-of : tie.Need-slice-aggregate-ceiling-of
 slice-aggregate-ceiling-of c = opened (c .before .before .before .before .before .before .before .read .ensures) (c .before .before .before .size .given .1) .long
 
+slice-aggregate-ceiling-of-2 : tie.Need-slice-aggregate-ceiling-of-2
+slice-aggregate-ceiling-of-2 c = search needs
+
 ceiling-of-requires : tie.Need-ceiling-of-requires
-ceiling-of-requires c κs = opened (c .before .before .before .before .before .before .before .read .ensures) (c .before .before .before .size .given .1) .netlist
+ceiling-of-requires c κs =
+    let o = opened (c .before .before .before .before .before .before .before .before .read .ensures) (c .before .before .before .before .size .given .1) in
+    (o .netlist, known-none _)
 
 returns : tie.Need-returns
 returns c =
@@ -44,8 +50,8 @@ returns c =
 
 returns-2 : tie.Need-returns-2
 returns-2 c =
-    let o = opened (c .before .before .before .before .before .before .before .before .read .ensures) (c .before .before .before .before .size .given .1) in
-    let a = c .before .before .before .before .before .before .before .before .before .before .before .before .before .before .args in
+    let o = opened (c .before .before .before .before .before .before .before .before .before .read .ensures) (c .before .before .before .before .before .size .given .1) in
+    let a = c .before .before .before .before .before .before .before .before .before .before .before .before .before .before .before .args in
     let r = c .ceiling-of .ensures in
     (r .0 ∙ read-verdict (a .file .now) (a .proposal .now) (a .queue) (a .colour) o, r .1 ∙ read-value (a .file .now) (a .proposal .now) (a .queue) (a .colour) o)
 
@@ -62,6 +68,7 @@ ceiling-spec =
     mul-end
     array-share-prefix-rows
     slice-aggregate-ceiling-of
+    slice-aggregate-ceiling-of-2
     ceiling-of-requires
     returns
     returns-2)

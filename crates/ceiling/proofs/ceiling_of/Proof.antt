@@ -40,19 +40,19 @@ refused-requires c κs = search needs
 -- the verdict, with room for all entries
 module _ (c : tie.After-judge-entry) where
   abbrev f : Netlist
-  f = netlistOf (c .before .before .before .before .before .args .size) (c .before .before .before .before .before .args .table .now)
+  f = netlistOf (c .before .before .before .before .before .before .args .size) (c .before .before .before .before .before .before .args .table .now)
 
   abbrev p : List ℕ
-  p = c .before .before .before .before .before .args .proposal .now
+  p = c .before .before .before .before .before .before .args .proposal .now
 
   abbrev q : ℕ
-  q = c .before .before .before .before .before .args .queue
+  q = c .before .before .before .before .before .before .args .queue
 
   abbrev d : ℕ
-  d = c .before .before .before .before .before .args .colour
+  d = c .before .before .before .before .before .before .args .colour
 
   roomy : judgedWithin f p mostEntries ≡ judged f p
-  roomy = within-given f p mostEntries (omega (arith, c .before .before .before .before .before .pre .facts .fewRows))
+  roomy = within-given f p mostEntries (omega (arith, c .before .before .before .before .before .before .pre .0 .facts .fewRows))
 
 enum-told : tie.Need-enum-told
 enum-told c = search needs
@@ -74,7 +74,7 @@ module _ (c : tie.After-enum-told) where
 returns : tie.Need-returns
 returns c =
     let a = at (c .before .before) in
-    let gone = past-all (f a) (a .before .before .before .before .before .pre) (q a) (d a) (a .before .before .entry-of .ensures) (c .before .if1 .taken) in
+    let gone = past-all (f a) (a .before .before .before .before .before .before .pre .0) (q a) (d a) (a .before .before .entry-of .ensures) (c .before .if1 .taken) in
     refused-is (f a) (p a) (q a) (d a) (c .refused2 .ensures) (place-tests (f a) (p a) (q a) (d a) (ok (c .before .before)) gone refl)
 
 -- a place of its fabric, and its weight
@@ -82,12 +82,12 @@ module _ (c : tie.Else1) where
   place : noPlace (f (at (c .before))) (q (at (c .before))) (d (at (c .before))) ≡ false
   place =
       let a = at (c .before) in
-      not-past (f a) (a .before .before .before .before .before .pre) (q a) (d a) (a .before .before .entry-of .ensures) (c .if1 .left)
+      not-past (f a) (a .before .before .before .before .before .before .pre .0) (q a) (d a) (a .before .before .entry-of .ensures) (c .if1 .left)
 
   weight-is : at (c .before) .judge-entry .result .weight ≡ aboveZero (weight (f (at (c .before))) (p (at (c .before))) (q (at (c .before))) (d (at (c .before))))
   weight-is =
       let a = at (c .before) in
-      a .judge-entry .ensures .0 .3 ∙ weight-there (f a) (a .before .before .before .before .before .pre) (q a) (d a) (a .before .before .entry-of .ensures) (p a) place (within (c .before))
+      a .judge-entry .ensures .0 .3 ∙ weight-there (f a) (a .before .before .before .before .before .before .pre .0) (q a) (d a) (a .before .before .entry-of .ensures) (p a) place (within (c .before))
 
 refused-requires-3 : tie.Need-refused-requires-3
 refused-requires-3 c κs = search needs
@@ -114,12 +114,12 @@ module _ (c : tie.After-struct-told) where
 raise-requires : tie.Need-raise-requires
 raise-requires c κs =
     let a = met c in
-    (omega (arith, headroom-natural (f a) (p a) (a .before .before .before .before .before .pre), ap belowZero (constant-is c), ap aboveZero (constant-is c), owed-is c), a .judge-entry .ensures .1)
+    (omega (arith, headroom-natural (f a) (p a) (a .before .before .before .before .before .before .pre .0), ap belowZero (constant-is c), ap aboveZero (constant-is c), owed-is c), a .judge-entry .ensures .1)
 
 capacity-requires : tie.Need-capacity-requires
 capacity-requires c κs =
     let a = met (c .before) in
-    omega (arith, place-of (f a) (q a) (d a) (place (c .before .before .before .before)) .0, a .before .before .before .before .before .pre .facts .long)
+    omega (arith, place-of (f a) (q a) (d a) (place (c .before .before .before .before)) .0, a .before .before .before .before .before .before .pre .0 .facts .long)
 
 wide-requires : tie.Need-wide-requires
 wide-requires c κs = search needs

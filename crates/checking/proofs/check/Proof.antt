@@ -2,6 +2,7 @@ use mathlib.Core.Path.{sym, _∙_}
 use native.Mathlib.Omega.{arith}
 use lib.ListN.{length}
 use borrow.Author.Needs.{needs}
+use Rattle.reach.proofs.Known.{known-none}
 use Rattle.reader.proofs.Opened.{opened}
 use Rattle.checking.proofs.Checking.{check-refused, check-zero, check-kept, check-judged, check-constant, check-written}
 use Rattle.checking.proofs.check.Statement.{statement}
@@ -34,8 +35,13 @@ array-share-prefix-rows c = omega (arith, opened (c .before .before .before .bef
 slice-aggregate-judge : tie.Need-slice-aggregate-judge
 slice-aggregate-judge c = opened (c .before .before .before .before .before .before .before .read .ensures) (c .before .before .before .size .given .1) .long
 
+slice-aggregate-judge-2 : tie.Need-slice-aggregate-judge-2
+slice-aggregate-judge-2 c = search needs
+
 judge-requires : tie.Need-judge-requires
-judge-requires c κs = opened (c .before .before .before .before .before .before .before .before .read .ensures) (c .before .before .before .before .size .given .1) .netlist
+judge-requires c κs =
+    let o = opened (c .before .before .before .before .before .before .before .before .before .read .ensures) (c .before .before .before .before .before .size .given .1) in
+    (o .netlist, known-none _)
 
 returns : tie.Need-returns
 returns c =
@@ -52,8 +58,8 @@ same-length c = search needs
 
 returns-2 : tie.Need-returns-2
 returns-2 c =
-    let o = opened (c .before .before .before .before .before .before .before .before .before .before .read .ensures) (c .before .before .before .before .before .before .size .given .1) in
-    let a = c .before .before .before .before .before .before .before .before .before .before .before .before .before .before .before .before .args in
+    let o = opened (c .before .before .before .before .before .before .before .before .before .before .before .read .ensures) (c .before .before .before .before .before .before .before .size .given .1) in
+    let a = c .before .before .before .before .before .before .before .before .before .before .before .before .before .before .before .before .before .args in
     let w = a .weights .now in
     let j = c .before .judge .ensures in (
       j .0 ∙ check-judged (a .file .now) (a .proposal .now) o (length w),
@@ -74,6 +80,7 @@ check-spec =
     mul-end
     array-share-prefix-rows
     slice-aggregate-judge
+    slice-aggregate-judge-2
     judge-requires
     returns
     same-length

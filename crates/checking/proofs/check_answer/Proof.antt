@@ -1,6 +1,7 @@
 use mathlib.Core.Path.{sym, _∙_}
 use native.Mathlib.Omega.{arith}
 use borrow.Author.Needs.{needs}
+use Rattle.reach.proofs.Known.{known-none}
 use Rattle.reader.proofs.Opened.{opened}
 use Rattle.checking.proofs.Checking.{check-refused, check-zero, check-judged, check-constant}
 use Rattle.checking.proofs.check_answer.Statement.{statement}
@@ -36,8 +37,13 @@ slice-aggregate-judge-bytes c = opened (c .before .before .before .before .befor
 slice-aggregate-judge-bytes-2 : tie.Need-slice-aggregate-judge-bytes-2
 slice-aggregate-judge-bytes-2 c = search needs
 
+slice-aggregate-judge-bytes-3 : tie.Need-slice-aggregate-judge-bytes-3
+slice-aggregate-judge-bytes-3 c = search needs
+
 judge-bytes-requires : tie.Need-judge-bytes-requires
-judge-bytes-requires c κs = opened (c .before .before .before .before .before .before .before .before .read .ensures) (c .before .before .before .before .size .given .1) .netlist
+judge-bytes-requires c κs =
+    let o = opened (c .before .before .before .before .before .before .before .before .before .read .ensures) (c .before .before .before .before .before .size .given .1) in
+    (o .netlist, known-none _)
 
 returns : tie.Need-returns
 returns c =
@@ -47,8 +53,8 @@ returns c =
 
 returns-2 : tie.Need-returns-2
 returns-2 c =
-    let o = opened (c .before .before .before .before .before .before .before .before .before .before .read .ensures) (c .before .before .before .before .before .before .size .given .1) in
-    let a = c .before .before .before .before .before .before .before .before .before .before .before .before .before .before .before .before .args in
+    let o = opened (c .before .before .before .before .before .before .before .before .before .before .before .read .ensures) (c .before .before .before .before .before .before .before .size .given .1) in
+    let a = c .before .before .before .before .before .before .before .before .before .before .before .before .before .before .before .before .before .args in
     let j = c .before .judge-bytes .ensures in
     (j .0 ∙ check-judged (a .file .now) (a .proposal .now) o (a .space), j .1 ∙ check-constant (a .file .now) (a .proposal .now) o (a .space))
 
@@ -66,6 +72,7 @@ check-answer-spec =
     array-share-prefix-rows
     slice-aggregate-judge-bytes
     slice-aggregate-judge-bytes-2
+    slice-aggregate-judge-bytes-3
     judge-bytes-requires
     returns
     returns-2)

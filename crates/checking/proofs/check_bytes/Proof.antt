@@ -3,6 +3,7 @@ use native.Mathlib.Omega.{arith}
 use Prim.Native.Nat.{_/_}
 use lib.ListN.{length}
 use borrow.Author.Needs.{needs}
+use Rattle.reach.proofs.Known.{known-none}
 use Rattle.reader.proofs.Opened.{opened}
 use Rattle.checking.proofs.Checking.{check-refused, bytes-kept, check-judged, bytes-written}
 use Rattle.checking.proofs.check_bytes.Statement.{statement}
@@ -32,8 +33,13 @@ array-share-prefix-rows c = omega (arith, opened (c .before .before .before .bef
 slice-aggregate-judge-bytes : tie.Need-slice-aggregate-judge-bytes
 slice-aggregate-judge-bytes c = opened (c .before .before .before .before .before .before .before .read .ensures) (c .before .before .before .size .given .1) .long
 
+slice-aggregate-judge-bytes-2 : tie.Need-slice-aggregate-judge-bytes-2
+slice-aggregate-judge-bytes-2 c = search needs
+
 judge-bytes-requires : tie.Need-judge-bytes-requires
-judge-bytes-requires c κs = opened (c .before .before .before .before .before .before .before .before .read .ensures) (c .before .before .before .before .size .given .1) .netlist
+judge-bytes-requires c κs =
+    let o = opened (c .before .before .before .before .before .before .before .before .before .read .ensures) (c .before .before .before .before .before .size .given .1) in
+    (o .netlist, known-none _)
 
 returns : tie.Need-returns
 returns c =
@@ -46,8 +52,8 @@ same-length c = search needs
 
 returns-2 : tie.Need-returns-2
 returns-2 c =
-    let o = opened (c .before .before .before .before .before .before .before .before .before .before .before .read .ensures) (c .before .before .before .before .before .before .before .size .given .1) in
-    let a = c .before .before .before .before .before .before .before .before .before .before .before .before .before .before .before .before .before .before .args in
+    let o = opened (c .before .before .before .before .before .before .before .before .before .before .before .before .read .ensures) (c .before .before .before .before .before .before .before .before .size .given .1) in
+    let a = c .before .before .before .before .before .before .before .before .before .before .before .before .before .before .before .before .before .before .before .args in
     let j = c .before .before .judge-bytes .ensures in
     (j .0 ∙ check-judged (a .file .now) (a .proposal .now) o (length (a .weights .now) / 8), j .2 ∙ bytes-written (a .file .now) (a .proposal .now) o (a .weights .now))
 
@@ -63,6 +69,7 @@ check-bytes-spec =
     mul-end
     array-share-prefix-rows
     slice-aggregate-judge-bytes
+    slice-aggregate-judge-bytes-2
     judge-bytes-requires
     returns
     same-length

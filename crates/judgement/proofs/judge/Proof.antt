@@ -14,7 +14,9 @@ use Rattle.judgement.proofs.judge.Statement.{statement}
 use Rattle.judgement.proofs.judge.Tie as tie
 
 weigh-requires : tie.Need-weigh-requires
-weigh-requires c κs = (c .before .before .before .pre, summed-zeros mostEntries)
+weigh-requires c κs =
+    let b = c .before .before .before .before in
+    (b .pre .0, (b .pre .1, summed-zeros mostEntries))
 
 mul-n : tie.Need-mul-n
 mul-n c = search needs
@@ -30,16 +32,16 @@ enum-told c = search needs
 
 write-entries-requires : tie.Need-write-entries-requires
 write-entries-requires c κs =
-    let b = c .before .before .before .before .before .before .before .before .before .before in
+    let b = c .before .before .before .before .before .before .before .before .before .before .before in
     let f = netlistOf (b .args .size) (b .args .table .now) in
     let p = b .args .proposal .now in
     let j = c .before .before .before .before .before .before .weigh .ensures in
     let room = sym (c .before .before .before .before .with-room .ensures .0) ∙ c .before .before .enum-told .given .1 in
-    (omega (arith, b .pre .facts .fewRows), room-space (c .before .before .before .before .before .before .weigh .result .verdict) (length (b .args .weights .now)) (8 * f .components) room)
+    (omega (arith, b .pre .0 .facts .fewRows), room-space (c .before .before .before .before .before .before .weigh .result .verdict) (length (b .args .weights .now)) (8 * f .components) room)
 
 returns : tie.Need-returns
 returns c =
-    let b = c .before .before .before .before .before .before .before .before .before in
+    let b = c .before .before .before .before .before .before .before .before .before .before in
     let f = netlistOf (b .args .size) (b .args .table .now) in
     let p = b .args .proposal .now in
     let j = c .before .before .before .before .before .weigh .ensures in
@@ -52,7 +54,7 @@ same-length c = search needs
 
 returns-2 : tie.Need-returns-2
 returns-2 c =
-    let b = c .before .before .before .before .before .before .before .before .before .before .before .before in
+    let b = c .before .before .before .before .before .before .before .before .before .before .before .before .before in
     let f = netlistOf (b .args .size) (b .args .table .now) in
     let p = b .args .proposal .now in
     let j = c .before .before .before .before .before .before .before .before .weigh .ensures in

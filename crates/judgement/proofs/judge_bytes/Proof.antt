@@ -16,11 +16,11 @@ same-length c = search needs
 
 returns : tie.Need-returns
 returns c =
-    let b = c .before .before .before .before .before .before .before .before in
+    let b = c .before .before .before .before .before .before .before .before .before in
     let r = c .before .before .before .judge-entry .ensures .0 in
     let f = netlistOf (b .args .size) (b .args .table .now) in
     let p = b .args .proposal .now in
-    (r .0, r .1, r .2 ∙ sym (bytes-unasked f p mostEntries (omega (arith, b .pre .facts .fewRows)) (judgedWithin f p (b .args .space)) (b .args .out .now)))
+    (r .0, r .1, r .2 ∙ sym (bytes-unasked f p mostEntries (omega (arith, b .pre .0 .facts .fewRows)) (judgedWithin f p (b .args .space)) (b .args .out .now)))
 
 pub judge-bytes-spec : {M : Type 1} → statement M
 judge-bytes-spec = tie.close (tie.spec judge-entry-requires same-length returns)

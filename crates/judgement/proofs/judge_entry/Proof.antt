@@ -18,7 +18,9 @@ use Rattle.judgement.proofs.judge_entry.Statement.{statement}
 use Rattle.judgement.proofs.judge_entry.Tie as tie
 
 weigh-requires : tie.Need-weigh-requires
-weigh-requires c κs = (c .before .before .before .before .pre, summed-zeros mostEntries)
+weigh-requires c κs =
+    let b = c .before .before .before .before .before in
+    (b .pre .0, (b .pre .1, summed-zeros mostEntries))
 
 mul-n : tie.Need-mul-n
 mul-n c = search needs
@@ -29,25 +31,25 @@ with-room-requires c κs = search needs
 -- the verdict is known
 module _ (c : tie.After-with-room) where
   abbrev f : Netlist
-  f = netlistOf (c .before .before .before .before .before .before .before .args .size) (c .before .before .before .before .before .before .before .args .table .now)
+  f = netlistOf (c .before .before .before .before .before .before .before .before .args .size) (c .before .before .before .before .before .before .before .before .args .table .now)
 
   abbrev p : List ℕ
-  p = c .before .before .before .before .before .before .before .args .proposal .now
+  p = c .before .before .before .before .before .before .before .before .args .proposal .now
 
   abbrev v : Verdict
-  v = judgedWithin f p (c .before .before .before .before .before .before .before .args .space)
+  v = judgedWithin f p (c .before .before .before .before .before .before .before .before .args .space)
 
   abbrev t : List ℕ
-  t = c .before .before .before .before .before .before .before .args .out .now
+  t = c .before .before .before .before .before .before .before .before .args .out .now
 
   abbrev u : ℕ
-  u = c .before .before .before .before .before .before .before .args .u
+  u = c .before .before .before .before .before .before .before .before .args .u
 
   both : (c .with-room .result .verdict ≡ v) × (c .with-room .result .constant ≡ constantBy v f p)
-  both = within-both f p (c .before .before .before .before .before .before .before .args .space) (c .before .before .weigh .ensures .0 .0) (c .before .before .weigh .ensures .0 .1) (c .with-room .ensures)
+  both = within-both f p (c .before .before .before .before .before .before .before .before .args .space) (c .before .before .weigh .ensures .0 .0) (c .before .before .weigh .ensures .0 .1) (c .with-room .ensures)
 
-  weighed : c .with-room .result .verdict ≡ Accepted → Weighed f p (c .before .before .weigh .last .1 .1 .1 .0)
-  weighed ok = c .before .before .weigh .ensures .1 (within-judged f p (c .before .before .before .before .before .before .before .args .space) (c .before .before .weigh .ensures .0 .0) (sym (c .with-room .ensures .0) ∙ ok))
+  weighed : c .with-room .result .verdict ≡ Accepted → Weighed f p (c .before .before .weigh .last .1 .1 .1 .1 .0)
+  weighed ok = c .before .before .weigh .ensures .1 (within-judged f p (c .before .before .before .before .before .before .before .before .args .space) (c .before .before .weigh .ensures .0 .0) (sym (c .with-room .ensures .0) ∙ ok))
 
 enum-known-found : tie.Need-enum-known-found
 enum-known-found c = search needs
@@ -61,8 +63,8 @@ enum-told c = search needs
 asked-requires : tie.Need-asked-requires
 asked-requires c κs =
     let k = c .before .before .before .before in
-    let b = k .before .before .before .before .before .before .before in
-    (b .pre, (weighed k (c .before .before .enum-told .given .1) .near, omega (arith, c .before .if1 .taken, b .pre .facts .fewRows)))
+    let b = k .before .before .before .before .before .before .before .before in
+    (b .pre .0, (weighed k (c .before .before .enum-told .given .1) .near, omega (arith, c .before .if1 .taken, b .pre .0 .facts .fewRows)))
 
 returns : tie.Need-returns
 returns c =
@@ -75,7 +77,7 @@ returns c =
         a .0 .1 ∙ both k .1,
         bytes-asked (f k) (p k) (u k) l (v k) (t k),
         a .0 .2 ∙ weight-asked (f k) (p k) (u k) l (weighed k ok) (sym ok ∙ both k .0),
-        a .0 .3 ∙ ap (λ (n : ℕ). cond (eqb (c .asked .result .weight) 0) 0 n) (owed-is (f k) (p k) (k .before .before .before .before .before .before .before .pre .facts .fewColours) (weighed k ok)),
+        a .0 .3 ∙ ap (λ (n : ℕ). cond (eqb (c .asked .result .weight) 0) 0 n) (owed-is (f k) (p k) (k .before .before .before .before .before .before .before .before .pre .0 .facts .fewColours) (weighed k ok)),
       ),
       a .1,
     )

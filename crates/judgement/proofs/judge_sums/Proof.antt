@@ -8,16 +8,14 @@ use Rattle.digits.specs.Least.{least}
 use Rattle.integers.specs.Sum.{sumTo}
 use Rattle.refusals.specs.declared.Verdict.{Verdict}
 use Rattle.netlist.specs.Netlist.{netlistOf}
-use Rattle.judgement.specs.Judged.{notZero, sumsVerdict, shareOf, orZero}
+use Rattle.leftover.specs.Leftover.{leftInside}
+use Rattle.judgement.specs.Judged.{sumsVerdict, shareOf, orZero}
 use Rattle.judgement.proofs.Judged.{refused-or, sums-flow, sums-weightless, sums-accepted}
 use Rattle.judgement.proofs.judge_sums.Statement.{statement}
 use Rattle.judgement.proofs.judge_sums.Tie as tie
 
-mul-lowest : tie.Need-mul-lowest
-mul-lowest c = search needs
-
-lowest-requires : tie.Need-lowest-requires
-lowest-requires c κs = search needs
+flow-left-requires : tie.Need-flow-left-requires
+flow-left-requires c κs = search needs
 
 mul-if1 : tie.Need-mul-if1
 mul-if1 c = search needs
@@ -27,15 +25,15 @@ refused-requires c κs = search needs
 
 returns : tie.Need-returns
 returns c =
-    let b = c .before .before .before .before .before .before .before in
+    let b = c .before .before .before .before .before .before in
     let f = netlistOf (b .args .size) (b .args .table .now) in
-    refused-or (sumsVerdict f (b .args .s .now) (b .args .w .now)) _ (c .refused .ensures) (sums-flow f (b .args .s .now) (b .args .w .now) (c .before .before .before .lowest .ensures) (c .before .if1 .taken))
+    refused-or (sumsVerdict f (b .args .s .now) (b .args .w .now)) _ (c .refused .ensures) (sums-flow f (b .args .s .now) (b .args .w .now) (c .before .before .before .flow-left .ensures) (c .before .if1 .taken))
 
-mul-lowest-2 : tie.Need-mul-lowest-2
-mul-lowest-2 c = search needs
+mul-lowest : tie.Need-mul-lowest
+mul-lowest c = search needs
 
-lowest-requires-2 : tie.Need-lowest-requires-2
-lowest-requires-2 c κs = search needs
+lowest-requires : tie.Need-lowest-requires
+lowest-requires c κs = search needs
 
 mul-if2 : tie.Need-mul-if2
 mul-if2 c = search needs
@@ -45,10 +43,10 @@ refused-requires-2 c κs = search needs
 
 returns-2 : tie.Need-returns-2
 returns-2 c =
-    let b = c .before .before .before .before .before .before .before .before .before .before .before .before in
+    let b = c .before .before .before .before .before .before .before .before .before .before .before in
     let f = netlistOf (b .args .size) (b .args .table .now) in
-    let none : 8 * f .channels ≤ least (notZero (b .args .s .now)) (8 * f .channels) = omega (arith, c .before .before .before .before .before .before .before .before .lowest .ensures, c .before .before .before .before .before .before .if1 .left) in
-    let all = sym (c .before .before .before .lowest2 .ensures) ∙ c .before .if2 .taken in
+    let none : 8 * f .channels ≤ least (leftInside f (b .args .s .now)) (8 * f .channels) = omega (arith, c .before .before .before .before .before .before .before .before .flow-left .ensures, c .before .before .before .before .before .before .if1 .left) in
+    let all = sym (c .before .before .before .lowest .ensures) ∙ c .before .if2 .taken in
     refused-or (sumsVerdict f (b .args .s .now) (b .args .w .now)) _ (c .refused2 .ensures) (sums-weightless f (b .args .s .now) (b .args .w .now) none all)
 
 constant-of-requires : tie.Need-constant-of-requires
@@ -56,10 +54,10 @@ constant-of-requires c κs = search needs
 
 returns-3 : tie.Need-returns-3
 returns-3 c =
-    let b = c .before .before .before .before .before .before .before .before .before .before .before .before in
+    let b = c .before .before .before .before .before .before .before .before .before .before .before in
     let f = netlistOf (b .args .size) (b .args .table .now) in
-    let none : 8 * f .channels ≤ least (notZero (b .args .s .now)) (8 * f .channels) = omega (arith, c .before .before .before .before .before .before .before .before .lowest .ensures, c .before .before .before .before .before .before .if1 .left) in
-    let v = sums-accepted f (b .args .s .now) (b .args .w .now) none (λ q. c .before .if2 .left (c .before .before .before .lowest2 .ensures ∙ q)) in
+    let none : 8 * f .channels ≤ least (leftInside f (b .args .s .now)) (8 * f .channels) = omega (arith, c .before .before .before .before .before .before .before .before .flow-left .ensures, c .before .before .before .before .before .before .if1 .left) in
+    let v = sums-accepted f (b .args .s .now) (b .args .w .now) none (λ q. c .before .if2 .left (c .before .before .before .lowest .ensures ∙ q)) in
     let k = toZ-ofZ w64 (c .constant-of .result) (record { sfits = c .constant-of .ok }) ∙ c .constant-of .ensures in
     (v, k ∙ ap (λ (x : Verdict). orZero x (sumTo (f .components) (shareOf (f .table) (b .args .w .now)))) v)
 
@@ -67,13 +65,12 @@ pub judge-sums-spec : {M : Type 1} → statement M
 judge-sums-spec =
     tie.close
     (tie.spec
-    mul-lowest
-    lowest-requires
+    flow-left-requires
     mul-if1
     refused-requires
     returns
-    mul-lowest-2
-    lowest-requires-2
+    mul-lowest
+    lowest-requires
     mul-if2
     refused-requires-2
     returns-2

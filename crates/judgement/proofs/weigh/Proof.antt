@@ -17,18 +17,18 @@ refused-requires c κs = search needs
 
 returns : tie.Need-returns
 returns c =
-    let b = c .before .before .before .before .before in
+    let b = c .before .before .before .before .before .before in
     let f = netlistOf (b .args .size) (b .args .table .now) in
     let p = b .args .proposal .now in
     refused-is f p (c .refused .ensures) (judged-length f p (sym (c .before .before .bad-length .ensures) ∙ c .before .if1 .taken))
 
 add-terms-requires : tie.Need-add-terms-requires
 add-terms-requires c κs =
-    let b = c .before .before .before .before .before .before in
+    let b = c .before .before .before .before .before .before .before in
     let f = netlistOf (b .args .size) (b .args .table .now) in
     let p = b .args .proposal .now in
     let short = sym (c .before .before .before .bad-length .ensures) ∙ c .before .before .if1 .left in
-    (b .pre .0, (length-short p short, (summed-zeros mostFlows, b .pre .1)))
+    (b .pre .0, (length-short p short, (summed-zeros mostFlows, b .pre .1 .1)))
 
 enum-known-named : tie.Need-enum-known-named
 enum-known-named c = search needs
@@ -41,16 +41,16 @@ enum-told c = search needs
 
 judge-sums-requires : tie.Need-judge-sums-requires
 judge-sums-requires c κs =
-    let b = c .before .before .before .before .before .before .before .before .before .before .before in
+    let b = c .before .before .before .before .before .before .before .before .before .before .before .before in
     let f = netlistOf (b .args .size) (b .args .table .now) in
     let p = b .args .proposal .now in
     let short = sym (c .before .before .before .before .before .before .before .before .bad-length .ensures) ∙ c .before .before .before .before .before .before .before .if1 .left in
     let a = c .before .before .before .before .add-terms .ensures .1 (c .before .before .enum-told .given .1) in
-    (b .pre .0, (a .flows .long, counts-near f (b .pre .0) p (omega (arith, length-short p short)) a))
+    (b .pre .0, (b .pre .1 .0, (a .flows .long, counts-near f (b .pre .0) p (omega (arith, length-short p short)) a)))
 
 returns-2 : tie.Need-returns-2
 returns-2 c =
-    let b = c .before .before .before .before .before .before .before .before .before .before .before in
+    let b = c .before .before .before .before .before .before .before .before .before .before .before .before in
     let f = netlistOf (b .args .size) (b .args .table .now) in
     let p = b .args .proposal .now in
     let short = sym (c .before .before .before .before .before .before .before .before .bad-length .ensures) ∙ c .before .before .before .before .before .before .before .if1 .left in
@@ -58,7 +58,7 @@ returns-2 c =
 
 returns-3 : tie.Need-returns-3
 returns-3 c =
-    let b = c .before .before .before .before .before .before .before .before .before .before .before .before in
+    let b = c .before .before .before .before .before .before .before .before .before .before .before .before .before in
     let f = netlistOf (b .args .size) (b .args .table .now) in
     let p = b .args .proposal .now in
     let short = sym (c .before .before .before .before .before .before .before .before .before .bad-length .ensures) ∙ c .before .before .before .before .before .before .before .before .if1 .left in

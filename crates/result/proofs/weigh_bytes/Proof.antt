@@ -30,20 +30,20 @@ same-length c = search needs
 
 returns : tie.Need-returns
 returns c =
-    let b = c .before .before .before .before .before .before .before .before .before in
+    let b = c .before .before .before .before .before .before .before .before .before .before in
     let f = netlistOf (b .args .size) (b .args .table .now) in
     let p = b .args .block .now in
-    bytes-accepted f p (within-given f p mostEntries (omega (arith, b .pre .0 .facts .fewRows))) (b .args .out .now) (b .pre .1) (c .before .before .before .before .judge-bytes .ensures) (c .enum-told .given .1)
+    bytes-accepted f p (within-given f p mostEntries (omega (arith, b .pre .0 .facts .fewRows))) (b .args .out .now) (b .pre .1 .1) (c .before .before .before .before .judge-bytes .ensures) (c .enum-told .given .1)
 
 same-length-2 : tie.Need-same-length-2
 same-length-2 c = search needs
 
 returns-2 : tie.Need-returns-2
 returns-2 c =
-    let b = c .before .before .before .before .before .before .before .before .before .before .before .before .before .before .before in
+    let b = c .before .before .before .before .before .before .before .before .before .before .before .before .before .before .before .before in
     let f = netlistOf (b .args .size) (b .args .table .now) in
     let p = b .args .block .now in
-    bytes-refused f p (within-given f p mostEntries (omega (arith, b .pre .0 .facts .fewRows))) (b .args .out .now) (b .pre .1) (c .before .before .before .before .before .before .before .before .before .before .judge-bytes .ensures) (c .before .before .before .before .before .before .found .given .1) (c .before .before .clear-bytes .ensures)
+    bytes-refused f p (within-given f p mostEntries (omega (arith, b .pre .0 .facts .fewRows))) (b .args .out .now) (b .pre .1 .1) (c .before .before .before .before .before .before .before .before .before .before .judge-bytes .ensures) (c .before .before .before .before .before .before .found .given .1) (c .before .before .clear-bytes .ensures)
 
 pub weigh-bytes-spec : {M : Type 1} → statement M
 weigh-bytes-spec =

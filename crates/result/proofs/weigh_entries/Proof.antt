@@ -26,20 +26,20 @@ same-length c = search needs
 
 returns : tie.Need-returns
 returns c =
-    let b = c .before .before .before .before .before .before .before in
+    let b = c .before .before .before .before .before .before .before .before in
     let f = netlistOf (b .args .size) (b .args .table .now) in
     let p = b .args .block .now in
-    entries-accepted f p (within-given f p (length (b .args .out .now)) (b .pre .1)) (b .args .out .now) (c .before .before .before .judge .ensures) (c .enum-told .given .1)
+    entries-accepted f p (within-given f p (length (b .args .out .now)) (b .pre .1 .1)) (b .args .out .now) (c .before .before .before .judge .ensures) (c .enum-told .given .1)
 
 same-length-2 : tie.Need-same-length-2
 same-length-2 c = search needs
 
 returns-2 : tie.Need-returns-2
 returns-2 c =
-    let b = c .before .before .before .before .before .before .before .before .before .before .before .before in
+    let b = c .before .before .before .before .before .before .before .before .before .before .before .before .before in
     let f = netlistOf (b .args .size) (b .args .table .now) in
     let p = b .args .block .now in
-    entries-refused f p (within-given f p (length (b .args .out .now)) (b .pre .1)) (b .args .out .now) (c .before .before .before .before .before .before .before .before .judge .ensures) (c .before .before .before .before .before .found .given .1) (c .before .clear-entries .ensures)
+    entries-refused f p (within-given f p (length (b .args .out .now)) (b .pre .1 .1)) (b .args .out .now) (c .before .before .before .before .before .before .before .before .judge .ensures) (c .before .before .before .before .before .found .given .1) (c .before .clear-entries .ensures)
 
 pub weigh-entries-spec : {M : Type 1} → statement M
 weigh-entries-spec =

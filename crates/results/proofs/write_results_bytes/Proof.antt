@@ -1,9 +1,10 @@
-use mathlib.Core.Path.{_≡_}
+use mathlib.Core.Path.{_≡_, refl, sym}
 use Prim.Native.Nat.{_+_, _*_, _-_, _≤_}
 use native.Mathlib.Omega.{arith}
 use lib.ListN.{length}
 use borrow.Author.Needs.{needs}
 use Rattle.netlist.specs.Netlist.{Netlist, netlistOf}
+use Rattle.reach.proofs.Known.{known-given}
 use Rattle.result.specs.Result.{resultSize, resultBytes}
 use Rattle.result.proofs.Result.{size-is, length-bytes}
 use Rattle.results.proofs.Written.{Written, written-none, written-all, written-length, written-small, written-room, written-part, count-inside, terms-inside, terms-short, written-more}
@@ -11,26 +12,29 @@ use Rattle.results.proofs.write_results_bytes.Statement.{statement}
 use Rattle.results.proofs.write_results_bytes.Tie as tie
 
 abbrev Inv-loop : tie.InvT-loop
-Inv-loop table size file n out₀ each at₀ to₀ k₀ out at to k = (each ≡ 8 * resultSize (netlistOf size table)) × Written (resultBytes (netlistOf size table)) file n out₀ out at to k
+Inv-loop table size file n out₀ sets each at₀ to₀ k₀ out at to k = (each ≡ 8 * resultSize (netlistOf size table)) × Written (resultBytes (netlistOf size table)) file n out₀ out at to k
 
 abbrev μ-loop : tie.MeasureT-loop
-μ-loop table size file n out₀ each at₀ to₀ k₀ out at to k = n - k
+μ-loop table size file n out₀ sets each at₀ to₀ k₀ out at to k = n - k
+
+work-out-requires : tie.Need-work-out-requires Inv-loop μ-loop
+work-out-requires c κs = (c .before .before .before .before .pre .0, refl)
 
 result-size-requires : tie.Need-result-size-requires Inv-loop μ-loop
-result-size-requires c κs = omega (arith, c .before .before .before .pre .0 .facts .fewRows)
+result-size-requires c κs = omega (arith, c .before .before .before .before .before .pre .0 .facts .fewRows)
 
 mul-each : tie.Need-mul-each Inv-loop μ-loop
-mul-each c = omega (arith, c .result-size .ensures, c .before .before .before .before .pre .0 .facts .fewRows)
+mul-each c = omega (arith, c .result-size .ensures, c .before .before .before .before .before .before .pre .0 .facts .fewRows)
 
 loop-holds : tie.Need-loop-holds Inv-loop μ-loop
 loop-holds c =
-    let b = c .before .before .before .before in
+    let b = c .before .before .before .before .before .before in
     (omega (arith, c .result-size .ensures, size-is (b .args .size) (b .args .table .now)), written-none (resultBytes (netlistOf (b .args .size) (b .args .table .now))) (b .args .file .now) (b .args .n) (b .args .out .now) (omega arith))
 
 -- ---- in a turn
 module _ (c : tie.In-loop Inv-loop μ-loop) where
   abbrev begin : tie.Start Inv-loop μ-loop
-  begin = c .before .before .before .before .before .before
+  begin = c .before .before .before .before .before .before .before .before
 
   abbrev f : Netlist
   f = netlistOf (begin .args .size) (begin .args .table .now)
@@ -60,6 +64,9 @@ mul-end c = omega (arith, c .term-count .ensures)
 add-end : tie.Need-add-end Inv-loop μ-loop
 add-end c = omega (arith, whole c)
 
+slice-aggregate-put-bytes : tie.Need-slice-aggregate-put-bytes Inv-loop μ-loop
+slice-aggregate-put-bytes c = sym (c .before .before .before .before .before .work-out .ensures .1)
+
 sub-put-bytes : tie.Need-sub-put-bytes Inv-loop μ-loop
 sub-put-bytes c = omega arith
 
@@ -67,26 +74,26 @@ part-put-bytes-start : tie.Need-part-put-bytes-start Inv-loop μ-loop
 part-put-bytes-start c = omega arith
 
 part-put-bytes-end : tie.Need-part-put-bytes-end Inv-loop μ-loop
-part-put-bytes-end c = whole c
+part-put-bytes-end c = whole (c .before)
 
 sub-put-bytes-2 : tie.Need-sub-put-bytes-2 Inv-loop μ-loop
-sub-put-bytes-2 c = omega (arith, room (c .before .before))
+sub-put-bytes-2 c = omega (arith, room (c .before .before .before))
 
 part-put-bytes-start-2 : tie.Need-part-put-bytes-start-2 Inv-loop μ-loop
-part-put-bytes-start-2 c = omega (arith, room (c .before .before))
+part-put-bytes-start-2 c = omega (arith, room (c .before .before .before))
 
 part-put-bytes-end-2 : tie.Need-part-put-bytes-end-2 Inv-loop μ-loop
 part-put-bytes-end-2 c = search needs
 
 put-bytes-requires : tie.Need-put-bytes-requires Inv-loop μ-loop
 put-bytes-requires c κs =
-    let t = c .before .before in
+    let t = c .before .before .before in
     let b = begin (t .before) in
     let w = t .before .before .loop .inv .1 in
-    (b .pre .0, (terms-short w (b .pre .1 .0) (omega arith) (t .term-count .ensures .0), written-part w (8 * resultSize (f (t .before))) (length-bytes (f (t .before))) (b .pre .1 .1) (omega arith)))
+    (b .pre .0, (known-given (t .before .before .before .before .work-out .ensures .0), (terms-short w (b .pre .1 .0) (omega arith) (t .term-count .ensures .0), written-part w (8 * resultSize (f (t .before))) (length-bytes (f (t .before))) (b .pre .1 .1) (omega arith))))
 
 add-to : tie.Need-add-to Inv-loop μ-loop
-add-to c = record { fits = omega (arith, small (c .before .before .before .before .before .before), c .before .before .before .before .before .before .before .loop .inv .0) }
+add-to c = record { fits = omega (arith, small (c .before .before .before .before .before .before .before), c .before .before .before .before .before .before .before .before .loop .inv .0) }
 
 add-k : tie.Need-add-k Inv-loop μ-loop
 add-k c = omega arith
@@ -96,13 +103,13 @@ loop-less c = omega arith
 
 loop-again : tie.Need-loop-again Inv-loop μ-loop
 loop-again c =
-    let t = c .before .before .before .before .before in
+    let t = c .before .before .before .before .before .before in
     let i = t .before .before .loop .inv in
     (i .0, written-more (i .1) (8 * resultSize (f (t .before))) (length-bytes (f (t .before))) (begin (t .before) .pre .1 .0) (omega arith) (t .term-count .ensures .0) (i .0) (c .before .before .put-bytes .ensures))
 
 same-length : tie.Need-same-length Inv-loop μ-loop
 same-length c =
-    let b = c .before .before .before .before .before .before in
+    let b = c .before .before .before .before .before .before .before .before in
     let f = netlistOf (b .args .size) (b .args .table .now) in
     written-length (c .before .loop .inv .1) (8 * resultSize f) (length-bytes f) (b .pre .1 .1)
 
@@ -115,6 +122,7 @@ write-results-bytes-spec =
     (tie.spec
     Inv-loop
     μ-loop
+    work-out-requires
     result-size-requires
     mul-each
     loop-holds
@@ -122,6 +130,7 @@ write-results-bytes-spec =
     term-count-requires
     mul-end
     add-end
+    slice-aggregate-put-bytes
     sub-put-bytes
     part-put-bytes-start
     part-put-bytes-end

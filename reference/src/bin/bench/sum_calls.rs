@@ -26,7 +26,7 @@ type Place = (u64, u64);
 /// The shortest and the longest of some proposals that are accepted and have a weight above 0.
 fn proposals(fabric: &Fabric) -> Vec<(usize, Vec<u8>, Place)> {
     let random = &mut Random::new(1, 0);
-    let equations = Equations::of(fabric);
+    let equations = Equations::everywhere(fabric);
     let mut found: Vec<_> = (0..200)
         .map(|_| equations.cancelling_terms(random))
         .filter_map(|terms| {
@@ -41,7 +41,7 @@ fn proposals(fabric: &Fabric) -> Vec<(usize, Vec<u8>, Place)> {
     found.into_iter().chain(longest).collect()
 }
 
-fn time_check(fabric: &Fabric, file: &[u8], proposal: &[u8]) -> Times {
+pub fn time_check(fabric: &Fabric, file: &[u8], proposal: &[u8]) -> Times {
     let mut weights = vec![0; weights_length(fabric.components.len())];
     let mut second_weights = weights.clone();
     time_alternately(

@@ -15,6 +15,7 @@ pub enum Call {
     Check,
     Ceiling { queue: u64, colour: u64 },
     CheckMany,
+    Reach,
 }
 
 /// What a part of the memory holds before a call, and where its guard page lies.
@@ -42,7 +43,7 @@ pub struct LentCall {
     pub call: Call,
     /// The choices, the proposal or the blocks.
     pub given: Lent,
-    /// The memory for a table, a file, moves, weights or the results of blocks.
+    /// The memory for a table, a file, moves, weights, the results of blocks or colour sets.
     pub result: Lent,
     pub expected: Expected,
 }

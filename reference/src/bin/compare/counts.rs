@@ -5,7 +5,7 @@ use std::fmt;
 use crate::case::Call;
 
 /// Each call with the numbers it can come to, in the order of its tests.
-const CALLS: [(&str, &[u32]); 8] = [
+const CALLS: [(&str, &[u32]); 9] = [
     ("unpack", &[0, 1, 2, 3, 4, 5, 6, 7, 8, 23]),
     ("pack", &[0, 4, 3, 6, 7, 8, 23]),
     ("start", &[0, 1, 2, 3, 4, 5, 6, 7, 8, 21]),
@@ -17,6 +17,7 @@ const CALLS: [(&str, &[u32]); 8] = [
         &[0, 1, 2, 3, 4, 5, 6, 7, 8, 11, 12, 13, 14, 31, 32],
     ),
     ("check_many", &[0, 1, 2, 3, 4, 5, 6, 7, 8, 33, 23]),
+    ("reach", &[0, 1, 2, 3, 4, 5, 6, 7, 8, 23]),
 ];
 
 fn column(call: Call) -> usize {
@@ -29,6 +30,7 @@ fn column(call: Call) -> usize {
         Call::Check => 5,
         Call::Ceiling { .. } => 6,
         Call::CheckMany => 7,
+        Call::Reach => 8,
     }
 }
 

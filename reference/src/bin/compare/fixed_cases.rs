@@ -18,6 +18,7 @@ use crate::merge_cases::merge_cases;
 use crate::pack_cases::pack_cases;
 use crate::panel_cases::panel_cases;
 use crate::random_lists::long_run;
+use crate::reach_cases::reach_cases;
 
 pub fn fixed_cases() -> Vec<Case> {
     let mut cases = file_cases();
@@ -26,6 +27,7 @@ pub fn fixed_cases() -> Vec<Case> {
     cases.extend(ceiling_cases());
     cases.extend(check_many_cases());
     cases.extend(merge_cases());
+    cases.extend(reach_cases());
     cases.extend(panel_cases());
     cases.push(heaviest_sum());
     cases.extend(long_runs());

@@ -6,7 +6,6 @@ use reference::merge::held_over_choice;
 use reference::persistence::persists;
 use reference::signals::Channel;
 use reference::state::ComponentState;
-use reference::state_calls::make_step;
 use reference::{Fabric, Kind};
 
 use crate::difference::{same, Difference};
@@ -52,28 +51,27 @@ impl FollowedSignals {
         self.before = None;
     }
 
-    /// The steps of a call, from the state before it. What waited in a step is there in the next, and
-    /// what a merge holds is offered.
-    pub fn steps(
+    /// A step of a call, the first or another, from what is held before it. What waited in the step
+    /// before is there in this one, and what a merge holds is offered.
+    pub fn step(
         &mut self,
         fabric: &Fabric,
-        states: &[ComponentState],
+        held: &[ComponentState],
         choices: &[u8],
+        now: Vec<Channel>,
+        first: bool,
     ) -> Result<(), Difference> {
-        let mut states = states.to_vec();
-        let mut counts = &mut self.from_call_to_call;
-        for choices in choices.chunks_exact(fabric.components.len()) {
-            let held = states.clone();
-            let now = make_step(fabric, &mut states, choices);
-            let not_offered = held_not_offered(fabric, &held, &now);
-            same("held inputs that are not offered", not_offered, 0)?;
-            if let Some(before) = &self.before {
-                follow_channels(counts, before, &now)?;
-                counts.held_picks += held_picks(fabric, &held, choices, &now);
-            }
-            self.before = Some(now);
-            counts = &mut self.inside_runs;
+        let counts = match first {
+            true => &mut self.from_call_to_call,
+            false => &mut self.inside_runs,
+        };
+        let not_offered = held_not_offered(fabric, held, &now);
+        same("held inputs that are not offered", not_offered, 0)?;
+        if let Some(before) = &self.before {
+            follow_channels(counts, before, &now)?;
+            counts.held_picks += held_picks(fabric, held, choices, &now);
         }
+        self.before = Some(now);
         Ok(())
     }
 }

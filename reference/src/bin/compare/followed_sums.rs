@@ -30,13 +30,19 @@ impl fmt::Display for SumCounts {
 
 pub struct FollowedSum {
     sum: Sum,
+    /// Whether flows are left, all of them outside the colour sets.
+    pub by_sets: bool,
     /// How many calls of the list came after its check.
     calls: u64,
 }
 
 impl FollowedSum {
-    pub fn new(sum: Sum) -> FollowedSum {
-        FollowedSum { sum, calls: 0 }
+    pub fn new(sum: Sum, by_sets: bool) -> FollowedSum {
+        FollowedSum {
+            sum,
+            by_sets,
+            calls: 0,
+        }
     }
 
     /// The sum has its constant in the state after a call.

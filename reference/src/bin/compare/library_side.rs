@@ -3,15 +3,16 @@
 use crate::answer::Answer;
 use crate::case::Call;
 use crate::lent_memory::LentMemory;
-use crate::trial::PARTS;
+use crate::trial::{FABRIC, PARTS};
 use reference::library::{
-    fabric_ceiling, fabric_check, fabric_check_many, fabric_pack, fabric_run, fabric_start,
-    fabric_step, fabric_unpack,
+    fabric_ceiling, fabric_check, fabric_check_many, fabric_pack, fabric_reach, fabric_run,
+    fabric_start, fabric_step, fabric_unpack,
 };
 use reference::library::{
     fabric_ceiling_place, fabric_ceiling_value, fabric_check_constant, fabric_check_many_place,
-    fabric_check_place, fabric_pack_place, fabric_run_place, fabric_start_place, fabric_step_place,
-    fabric_unpack_channels, fabric_unpack_colours, fabric_unpack_place,
+    fabric_check_place, fabric_pack_place, fabric_reach_place, fabric_run_place,
+    fabric_start_place, fabric_step_place, fabric_unpack_channels, fabric_unpack_colours,
+    fabric_unpack_place,
 };
 
 /// What the sister calls hand back; the number is left at 0.
@@ -47,6 +48,7 @@ pub fn sisters(call: Call, parts: &[LentMemory; PARTS]) -> Answer {
             Call::CheckMany => {
                 fabric_check_many_place(fabric, fabric_len, given, given_len, result, result_len)
             }
+            Call::Reach => fabric_reach_place(fabric, fabric_len, result, result_len),
         }
     };
     answer
@@ -74,6 +76,16 @@ pub fn call(call: Call, parts: &mut [LentMemory; PARTS]) -> u32 {
             Call::CheckMany => {
                 fabric_check_many(fabric, fabric_len, given, given_len, result, result_len)
             }
+            Call::Reach => fabric_reach(fabric, fabric_len, result, result_len),
         }
     }
+}
+
+/// The colour sets of the lent fabric, which is an accepted one of so many channels.
+pub fn sets(parts: &[LentMemory; PARTS], channels: usize) -> Vec<u8> {
+    let (fabric, fabric_len) = parts[FABRIC].part();
+    let mut sets = vec![0; channels];
+    let number = unsafe { fabric_reach(fabric, fabric_len, sets.as_mut_ptr(), sets.len()) };
+    assert_eq!(number, 0, "reach of an accepted fabric");
+    sets
 }

@@ -6,6 +6,7 @@ use reference::Fabric;
 use crate::case::Call;
 use crate::difference::Difference;
 use crate::followed_ceilings::FollowedCeiling;
+use crate::followed_moves::FollowedMoves;
 use crate::followed_signals::FollowedSignals;
 use crate::followed_sums::FollowedSum;
 
@@ -16,9 +17,15 @@ pub struct List {
     pub sums: Vec<FollowedSum>,
     pub block_sums: Vec<FollowedSum>,
     pub ceilings: Vec<FollowedCeiling>,
-    /// Read when the first steps are followed.
-    pub fabric: Option<Fabric>,
     pub signals: FollowedSignals,
+    /// There from the first step that is followed.
+    pub walked: Option<Walked>,
+}
+
+/// The fabric of a list that has steps, and what they move.
+pub struct Walked {
+    pub fabric: Fabric,
+    pub moves: FollowedMoves,
 }
 
 impl List {

@@ -27,9 +27,11 @@ mod follow_accepted;
 mod follow_steps;
 mod followed;
 mod followed_ceilings;
+mod followed_moves;
 mod followed_signals;
 mod followed_sums;
 mod judged_block;
+mod left_counts;
 mod lent_memory;
 mod library_side;
 mod list;
@@ -45,6 +47,8 @@ mod random_check_many;
 #[path = "../shared/random_fabrics.rs"]
 mod random_fabrics;
 mod random_lists;
+mod random_reach;
+mod reach_cases;
 mod round_trip;
 mod second_side;
 mod trial;
@@ -62,8 +66,9 @@ use random_cases::random_case;
 use trial::Trial;
 
 /// How often each number of each call must be reached, how many tables of each sort must be packed,
-/// how many blocks judged in each way, how many states refused because of a merge, and how many
-/// accepted sums, ceilings and signals must be followed through a list of calls.
+/// how many blocks judged in each way, how many states refused because of a merge, how many proposals
+/// must leave flows inside and outside the colour sets, and how many accepted sums, ceilings, signals
+/// and moves must be followed through a list of calls.
 const LEAST: u64 = 1000;
 
 fn main() -> ExitCode {
@@ -129,6 +134,7 @@ fn compare(options: &Options) -> ExitCode {
     println!("{}", trial.followed);
     println!("{}", trial.blocks);
     println!("{}", trial.bad_merges);
+    println!("{}", trial.left);
     println!("{}", trial.counts);
     verdict(found, &too_few(&trial))
 }
@@ -147,6 +153,8 @@ fn too_few(trial: &Trial) -> Vec<String> {
     lines.extend(too_few.map(|(what, count)| format!("blocks {what}: {count}")));
     let too_few = trial.bad_merges.too_few(LEAST);
     lines.extend(too_few.map(|(what, count)| format!("merges refused {what}: {count}")));
+    let too_few = trial.left.too_few(LEAST);
+    lines.extend(too_few.map(|(what, count)| format!("{what}: {count}")));
     lines
 }
 

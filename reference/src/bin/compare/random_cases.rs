@@ -12,10 +12,12 @@ use crate::random_calls::random_fabric_call;
 use crate::random_ceilings::random_ceiling_case;
 use crate::random_check_many::random_check_many_case;
 use crate::random_lists::random_list;
+use crate::random_reach::random_reach_case;
 
 pub fn random_case(random: &mut Random) -> Case {
     match random.below(100) {
-        0..36 => random_file_case(random),
+        0..30 => random_file_case(random),
+        30..36 => random_reach_case(random),
         36..47 => random_fabric_call(random, Call::Start),
         47..59 => random_fabric_call(random, Call::Step),
         59..71 => random_fabric_call(random, Call::Run),

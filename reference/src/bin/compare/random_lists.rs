@@ -1,5 +1,5 @@
 //! Lists of calls on one state, as a start left it: accepted and refused ones mixed, with checks,
-//! also of many proposals, and ceilings between them.
+//! also of many proposals, ceilings and colour sets between them.
 
 use reference::check::weights_length;
 use reference::random::Random;
@@ -90,7 +90,7 @@ fn case_on(random: &mut Random, fabric: &Fabric, past: usize, calls: Vec<LentCal
     }
 }
 
-/// A check of a proposal in which all flows cancel, and ceilings that it gives.
+/// A check of a proposal that is not refused for a flow, and ceilings that it gives.
 fn cancelling_calls(random: &mut Random, fabric: &Fabric, equations: &Equations) -> Vec<LentCall> {
     let proposal = write_proposal(&equations.cancelling_terms(random));
     let space = weights_length(fabric.components.len());
@@ -120,11 +120,12 @@ fn random_call(random: &mut Random, fabric: &Fabric, equations: &Equations) -> L
             let moves = random_memory(random, fabric.channels);
             (Call::Step, choices, moves)
         }
-        60..94 => {
+        60..93 => {
             let steps = random_step_count(random);
             let choices = good_or_damaged_choices(random, fabric, steps);
             (Call::Run, choices, none())
         }
+        93..94 => (Call::Reach, none(), random_memory(random, fabric.channels)),
         94..97 => {
             let proposal = random_proposal(random, equations);
             let weights = random_memory(random, weights_length(fabric.components.len()));

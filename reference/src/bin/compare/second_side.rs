@@ -1,6 +1,6 @@
 //! The second program's side of a call.
 
-use reference::{ceiling, check, check_many, pack, run, start, step, unpack};
+use reference::{ceiling, check, check_many, pack, reach, run, start, step, unpack};
 
 use crate::answer::Answer;
 use crate::case::Call;
@@ -37,5 +37,6 @@ pub fn call(call: Call, parts: &mut [Vec<u8>; PARTS]) -> Answer {
             }
         }
         Call::CheckMany => Answer::of(&check_many(fabric, given, result)),
+        Call::Reach => Answer::of(&reach(fabric, result)),
     }
 }

@@ -7,6 +7,7 @@ use crate::case::{Call, Case, Lent};
 use crate::counts::Counts;
 use crate::difference::{hex, same, same_bytes, Difference};
 use crate::followed::Followed;
+use crate::left_counts::LeftCounts;
 use crate::lent_memory::LentMemory;
 use crate::list::List;
 use crate::packs::Packs;
@@ -33,6 +34,7 @@ pub struct Trial {
     pub followed: Followed,
     pub blocks: BlockCounts,
     pub bad_merges: BadMerges,
+    pub left: LeftCounts,
 }
 
 impl Trial {
@@ -44,6 +46,7 @@ impl Trial {
             followed: Followed::default(),
             blocks: BlockCounts::default(),
             bad_merges: BadMerges::default(),
+            left: LeftCounts::default(),
         }
     }
 
@@ -63,6 +66,7 @@ impl Trial {
             };
             let answer = self.call(lent.call).map_err(describe)?;
             last = answer.number;
+            self.add_left(lent.call, &answer);
             self.as_expected(&lent.expected, &answer)
                 .map_err(describe)?;
             if last == 0 {

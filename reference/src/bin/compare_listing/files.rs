@@ -2,7 +2,9 @@
 
 use std::fmt;
 
+use reference::left::Left;
 use reference::listing;
+use reference::packed::read_file;
 
 #[derive(Clone)]
 pub enum Content {
@@ -47,6 +49,14 @@ impl Files {
     /// The second program's text.
     pub fn text(&self) -> String {
         listing(self.fabric.bytes(), self.proof.bytes())
+    }
+
+    /// Where the flows lie that the proposal leaves.
+    pub fn left(&self) -> Left {
+        let fabric = read_file(self.fabric.bytes());
+        fabric.map_or(Left::Nothing, |fabric| {
+            Left::of(&fabric, self.proof.bytes())
+        })
     }
 }
 

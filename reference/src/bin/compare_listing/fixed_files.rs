@@ -1,7 +1,7 @@
 //! Files whose text is known: the document's case, the panels' sums, and others at the bounds.
 
 use reference::panels::panels;
-use reference::samples::{credit_loop, credit_terms, looped_queues};
+use reference::samples::{credit_loop, credit_terms, looped_queues, queue, sink, source};
 use reference::terms::{write_proposal, Term, MOST_TERMS, MULTIPLIER_BOUND};
 use reference::Fabric;
 
@@ -14,6 +14,7 @@ const LOOP_TEXT: &str = "Q 2 0 1\nQ 5 0 1\nSUM 2\n";
 
 pub fn fixed_files() -> Vec<Case> {
     let mut cases = credit_loop_files();
+    cases.extend(left_files());
     cases.extend(panel_files());
     cases.extend(long_files());
     cases.push(longest_text());
@@ -50,6 +51,27 @@ fn credit_loop_files() -> Vec<Case> {
         case("no proof", with(&fabric, &missing), "NO 14 0\n"),
         case("fabric unreadable", with(&folder, &proof), "NO 1 0\n"),
         case("proof unreadable", with(&fabric, &folder), "NO 14 0\n"),
+    ]
+}
+
+/// A source of colour 0, a queue and a sink: colour 1 never comes, and its flows are outside the sets.
+fn left_files() -> Vec<Case> {
+    let fabric = Fabric {
+        colours: 2,
+        channels: 2,
+        components: vec![source(0), queue(0, 1, 1, 0), sink(1)],
+    };
+    let of_queue = |index, multiplier| Term {
+        component: 1,
+        index,
+        multiplier,
+    };
+    let (outside, inside) = (of_queue(1, 7), of_queue(0, 7));
+    let with = |terms: &[Term]| Files::of(fabric.to_file(), write_proposal(terms));
+    vec![
+        case("outside the sets", with(&[outside]), "Q 1 1 7\nSUM 0\n"),
+        case("inside the sets", with(&[inside]), "NO 13 0\n"),
+        case("both", with(&[outside, inside]), "NO 13 0\n"),
     ]
 }
 

@@ -16,6 +16,7 @@ mod random_files;
 use std::path::Path;
 use std::process::ExitCode;
 
+use reference::left::Left;
 use reference::random::Random;
 
 use files::Files;
@@ -58,6 +59,14 @@ const KINDS: [&str; 14] = [
     "NO 12 ", "NO 13 ", "NO 14 ",
 ];
 
+/// Each of these must occur too: where the flows lie that a proposal leaves.
+const PLACES: [(Left, &str); 4] = [
+    (Left::Outside, "flows left outside the colour sets alone"),
+    (Left::Inside, "flows left inside alone"),
+    (Left::LowestOutside, "the lowest of both outside"),
+    (Left::LowestInside, "the lowest of both inside"),
+];
+
 fn compare(program: &Program, cases: u64, seed: u64) -> Result<String, String> {
     let fixed = fixed_files();
     for (name, files, text) in &fixed {
@@ -66,6 +75,7 @@ fn compare(program: &Program, cases: u64, seed: u64) -> Result<String, String> {
         }
     }
     let mut counts = [0_u64; KINDS.len()];
+    let mut place_counts = [0_u64; PLACES.len()];
     for number in 0..cases {
         let files = random_files(&mut Random::new(seed, number));
         let text = files.text();
@@ -74,12 +84,19 @@ fn compare(program: &Program, cases: u64, seed: u64) -> Result<String, String> {
         for (count, kind) in counts.iter_mut().zip(KINDS) {
             *count += u64::from(text.contains(kind));
         }
+        let left = files.left();
+        for (count, (place, _)) in place_counts.iter_mut().zip(PLACES) {
+            *count += u64::from(left == place);
+        }
     }
     let mut report = format!("{} fixed cases and {cases} random ones", fixed.len());
     for (count, kind) in counts.iter().zip(KINDS) {
         report += &format!(", {count} with {kind:?}");
     }
-    if counts.contains(&0) {
+    for (count, (_, place)) in place_counts.iter().zip(PLACES) {
+        report += &format!(", {count} with {place}");
+    }
+    if counts.contains(&0) || place_counts.contains(&0) {
         return Err(report + "; each must occur");
     }
     Ok(report + "; no difference")

@@ -6,10 +6,10 @@ use lib.IntN.{pos}
 use native.Mathlib.Omega.{arith}
 use Rattle.digits.proofs.Least.{least-at, least-none}
 use Rattle.integers.proofs.Near.{zero-bits, nonzero-bits}
-use Rattle.judgement.specs.Judged.{notZero, Zeros}
-use Rattle.judgement.proofs.Judged.{zeros-none, zeros-more}
-use Rattle.judgement.proofs.lowest.Statement.{statement}
-use Rattle.judgement.proofs.lowest.Tie as tie
+use Rattle.leftover.specs.Leftover.{notZero, Zeros}
+use Rattle.leftover.proofs.Leftover.{zeros-none, zeros-more}
+use Rattle.leftover.proofs.lowest.Statement.{statement}
+use Rattle.leftover.proofs.lowest.Tie as tie
 
 abbrev Inv-loop : tie.InvT-loop
 Inv-loop s n v₀ v = (v ≤ n) × Zeros s v

@@ -1,0 +1,1 @@
+// From start on, every colour that moves lies in the set of its channel; there is no code here.

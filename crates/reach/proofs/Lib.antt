@@ -1,0 +1,4 @@
+pub mod Known
+pub mod Passed
+pub mod Reaches
+pub mod Rounds

@@ -1,0 +1,1 @@
+// The colours that can reach a channel, and laws of them; there is no code here.
