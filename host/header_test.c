@@ -102,12 +102,12 @@ static void lengths(uint8_t n)
     IS(fabric_entry(second + FABRIC_RESULT_CONSTANT), -5 * 3);
     IS(fabric_entry(second + FABRIC_RESULT_WEIGHTS + FABRIC_WEIGHT(n - 1, 0)), -5);
 
-    memset(sets, 0, sizeof sets);
+    memset(sets, 9, sizeof sets);
     ANSWERS(fabric_reach(file, file_len, sets, FABRIC_SETS_SIZE(n) - 1), FABRIC_RESULT_SPACE);
-    IS(sets[0], 0);
+    IS(sets[0], 9);
     ANSWERS(fabric_reach(file, file_len, sets, FABRIC_SETS_SIZE(n)), FABRIC_ACCEPTED);
     IS(sets[n - 1], FABRIC_COLOUR_BIT(0));
-    IS(sets[n], 0);
+    IS(sets[n], 9);
     IS(fabric_reach_place(file, file_len, sets, FABRIC_SETS_SIZE(n)), 0);
 }
 

@@ -27,8 +27,8 @@
  * Threads. The calls share nothing and keep nothing from one call to the next, so any number of threads may call at once, on memory
  * of which the three things above hold.
  *
- * Stack. There is no heap. No call takes 64 KiB of stack, and no check, check_many or ceiling 48 KiB, whatever the fabric; a sister
- * call takes no more than its call.
+ * Stack. There is no heap. No call takes 64 KiB of stack, and no check, check_many or ceiling 48 KiB, nor a sister call of them,
+ * whatever the fabric.
  *
  * Linking. libfabric.a is ELF for Linux on x86-64, any such processor. It is position-independent, so that it links into programs
  * and shared objects alike, and needs memcpy and memset of the C library, nothing else.
@@ -58,7 +58,7 @@ enum fabric_refusal {
     FABRIC_BAD_CHOICE = 10,          /* a choice is not allowed; place: the lowest such offset */
     FABRIC_PROPOSAL_LENGTH = 11,     /* proposal no multiple of 4 bytes, or longer than 16,384 */
     FABRIC_NO_EQUATION = 12,         /* a term names no equation; place: the lowest such term, counted from 0 */
-    FABRIC_FLOW_LEFT = 13,           /* a flow inside the sets does not cancel; place: 8 x + d of the lowest such flow L(x,d) */
+    FABRIC_FLOW_LEFT = 13,           /* a flow L(x,d), d in the set of x (fabric_reach), does not cancel; place: 8 x + d of the lowest such */
     FABRIC_NO_WEIGHT = 14,           /* no queue keeps a weight other than 0 */
     FABRIC_STATE_SHORT = 21,         /* state shorter than 64 N */
     FABRIC_BAD_STATE = 22,           /* the state is not good; place: the lowest such component */
@@ -335,8 +335,10 @@ uint64_t fabric_check_many_place(const uint8_t *fabric, size_t fabric_len, const
  * output has those of its input, and the fill colour if the filling is above 0; the output of a function, and each of a fork, has what
  * its map makes of those of the input; a join's output has what the map makes of those of A if B's set has a member, else none; a
  * switch's output has those of the input that go there; a merge's output has those of both inputs. No run from start moves a colour
- * on a channel outside its set: wherever, as said for check, an accepted sum equals K, a further step, and each step of a run, moves
- * only colours that are in the sets of their channels. A colour in a set need not ever come.
+ * on a channel outside its set: after an accepted start on that fabric and a state, and after every list of start, step and run calls
+ * on them that follows, accepted or refused, provided that fabric and state keep their bytes between the calls, a further step, and
+ * each step of a run, moves only colours that are in the sets of their channels. Of a state that start never comes to this says
+ * nothing. A colour in a set need not ever come.
  * Refusals in this order: 1 2 3 4 5 6 7 8 23. */
 uint32_t fabric_reach(const uint8_t *fabric, size_t fabric_len, uint8_t *sets, size_t sets_len);
 

@@ -47,7 +47,7 @@ pub mod null_space;
 pub mod sparse;
 pub mod sum_basis;
 
-// For the comparison: a digest of two runs, and how a proposal fails or passes.
+// For the comparison: a digest of two runs, and where the flows lie that a proposal leaves.
 pub mod digest;
 pub mod left;
 

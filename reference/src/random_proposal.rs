@@ -21,8 +21,8 @@ pub struct Equations {
 }
 
 impl Equations {
-    /// In one group all flows cancel, in the next all inside the sets. In the last no flow that stands
-    /// there is inside, or no queue.
+    /// Three groups, if none is empty: with queues, all flows inside the sets cancel; colours that never
+    /// come to a queue, and combinations without queues; all flows cancel.
     pub fn of(fabric: &Fabric) -> Equations {
         let inside = null_space(fabric, &ColourSets::of(fabric));
         let last = [inside.never_queued, inside.without_queues].concat();

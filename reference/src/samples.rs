@@ -32,8 +32,13 @@ impl Fabric {
 
 /// Emits colour 0.
 pub fn source(a: u8) -> Component {
+    emits(0x80, a)
+}
+
+/// A source with these colours.
+pub fn emits(mask: u8, a: u8) -> Component {
     Component {
-        mask: 0x80,
+        mask,
         ..Component::new(Kind::Source, [a, 0, 0])
     }
 }
@@ -82,6 +87,15 @@ pub fn credit_loops(count: usize) -> Fabric {
         colours: 1,
         channels,
         components: (0..channels as u8).step_by(6).flat_map(one).collect(),
+    }
+}
+
+/// A source of colour 0, a queue and a sink; colour 1 never comes.
+pub fn colour_0_alone() -> Fabric {
+    Fabric {
+        colours: 2,
+        channels: 2,
+        components: vec![source(0), queue(0, 1, 1, 0), sink(1)],
     }
 }
 
@@ -166,11 +180,7 @@ pub fn switch_row(pairs: usize) -> Fabric {
         [switch, Component::new(Kind::Merge, [x + 1, x + 2, x + 3])]
     };
     let last = 3 * pairs as u8;
-    let emits_both = Component {
-        mask: 0xC0,
-        ..source(0)
-    };
-    let components = [emits_both]
+    let components = [emits(0xC0, 0)]
         .into_iter()
         .chain((0..last).step_by(3).flat_map(one))
         .chain([sink(last)])
@@ -186,12 +196,8 @@ pub fn switch_row(pairs: usize) -> Fabric {
 /// components and 127 channels. A merge has what comes down the row at A.
 pub fn merge_row(merges: usize) -> Fabric {
     let one = |x: u8| {
-        let emits_colour_1 = Component {
-            mask: 0x40,
-            ..source(x + 1)
-        };
         [
-            emits_colour_1,
+            emits(0x40, x + 1),
             Component::new(Kind::Merge, [x, x + 1, x + 2]),
         ]
     };
@@ -226,11 +232,7 @@ pub fn doubling_row(stages: usize) -> Fabric {
         ]
     };
     let last = 4 * stages as u8 + 1;
-    let emits_colour_1 = Component {
-        mask: 0x40,
-        ..source(0)
-    };
-    let components = [emits_colour_1, queue(0, 1, 2, 1)]
+    let components = [emits(0x40, 0), queue(0, 1, 2, 1)]
         .into_iter()
         .chain((1..last).step_by(4).flat_map(one))
         .chain([

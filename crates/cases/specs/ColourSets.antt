@@ -48,7 +48,7 @@ mapsFile =
 unfoldable pub ringFile : List ℕ
 ringFile = packedFile 2 2 (row₂ 2 0 1 0 0 0 0 0 0 2 1 0 ++ row₂ 3 1 0 0 1 1 0 0 0 0 0 0) 2
 
--- reach on a file with this many lent bytes of 9; check and the listing of a file and terms; steps with these choices, from start, of the second file above
+-- reach on a file with this many lent bytes of 9; check and the listing of a file and terms; steps of `backFile` with these choices, from start
 pub data Input : Type 0 where
   sets : List ℕ → ℕ → Input
   terms : List ℕ → List ℕ → Input

@@ -86,7 +86,7 @@ fn ceiling_of(
     }
 }
 
-// The ceiling of a colour in a queue.
+// The ceiling of a colour in a queue. No sets are lent: they are worked out only where a flow is left.
 pub fn ceiling(file: &[u8], proposal: &[u8], queue: u64, colour: u64) -> Bound
     ensures { λ r. ⌜ (r .verdict ≡ ceilingVerdict (now (file .entry)) (now (proposal .entry)) queue colour)
         × (r .ceiling ≡ ceilingValue (now (file .entry)) (now (proposal .entry)) queue colour) ⌝ }

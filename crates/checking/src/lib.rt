@@ -11,7 +11,7 @@ use record::ROW_SIZE;
 use refusals::Verdict;
 use wiring::ENDS_SIZE;
 
-// What check answers, with room for so many entries.
+// What check answers, with room for so many entries. Here and below no sets are lent: they are worked out only where a flow is left.
 pub fn check_answer(file: &[u8], proposal: &[u8], space: usize) -> Judgement
     ensures { λ r. ⌜ (r .verdict ≡ checkVerdict (now (file .entry)) (now (proposal .entry)) space)
         × (r .constant ≡ checkConstant (now (file .entry)) (now (proposal .entry)) space) ⌝ }

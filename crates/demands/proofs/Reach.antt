@@ -88,8 +88,8 @@ module _ (file state : List ℕ) (began : startVerdict file (length state) ≡ A
     unfolding movesAfterStep moves
     byte x l = ap (λ (v : Verdict). getD (kept v (moves f after choices ++ drop (f .channels) out) out) x 0) stepped ∙ filled-at (moved f after choices) (drop (f .channels) out) 0 (f .channels) x l
 
-    pub step-inside : (x d : ℕ) → x < f .channels → getD (movesAfterStep file after choices out) x 0 ≡ suc d → Reaches f x d
-    step-inside x d l q =
+    pub step-moves : (x d : ℕ) → x < f .channels → getD (movesAfterStep file after choices out) x 0 ≡ suc d → Reaches f x d
+    step-moves x d l q =
         nothing-else after choices (calls-keep file (Inside f) at-start at-step state began calls) (step-allowed file after choices (length out) stepped) x d l (sym (byte x l) ∙ q)
 
   -- a step of a run after them
@@ -100,11 +100,11 @@ module _ (file state : List ℕ) (began : startVerdict file (length state) ≡ A
         let k : m ≤ length choices / f .components = omega arith in
         omega (arith, mul-le-mul n k, div-add-mod (length choices) (f .components))
 
-    pub run-inside : (x d : ℕ) → x < f .channels → moved f (afterSteps f m choices after) (stepChoices f choices m) x ≡ suc d → Reaches f x d
-    run-inside = nothing-else (afterSteps f m choices after) (stepChoices f choices m) (runs-keep file (Inside f) at-start at-step state began calls choices ran m done) (no-bad-step f choices (run-allowed file after choices ran) m l)
+    pub run-moves : (x d : ℕ) → x < f .channels → moved f (afterSteps f m choices after) (stepChoices f choices m) x ≡ suc d → Reaches f x d
+    run-moves = nothing-else (afterSteps f m choices after) (stepChoices f choices m) (runs-keep file (Inside f) at-start at-step state began calls choices ran m done) (no-bad-step f choices (run-allowed file after choices ran) m l)
 
 pub movesInside : MovesInside
-movesInside = step-inside
+movesInside = step-moves
 
 pub movesInsideRun : MovesInsideRun
-movesInsideRun = run-inside
+movesInsideRun = run-moves

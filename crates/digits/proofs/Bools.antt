@@ -18,6 +18,10 @@ pub or-false : (a b : Bool) → (a || b) ≡ false → (a ≡ false) × (b ≡ f
 or-false true b e = absurd (true≢false e)
 or-false false b e = (refl, e)
 
+pub and-swap : (a b : Bool) → (a && b) ≡ (b && a)
+and-swap true b = sym (and-true b)
+and-swap false b = sym (and-false b)
+
 -- a conjunction of what is true, a disjunction with it
 pub both-true : {a b : Bool} → a ≡ true → b ≡ true → (a && b) ≡ true
 both-true e q = rw (e, q)

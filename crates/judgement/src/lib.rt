@@ -150,7 +150,8 @@ fn with_room(j: Judgement, space: usize, need: usize) -> Judgement
     }
 }
 
-// The judgement with room for as many entries as a lent table has; the weights go into it.
+// The judgement with room for as many entries as a lent table has; the weights go into it. The sets that are lent are the fabric's, or no bytes where they are not
+// worked out yet.
 pub fn judge(
     table: &[u8],
     size: Size,
@@ -215,7 +216,7 @@ fn asked(j: Judgement, w: &[i64; MOST_ENTRIES], table: &[u8], size: Size, u: usi
 }
 
 // The judgement with room for `space` entries. Entry u is asked for; if there is none, the weights go into lent bytes instead, 8 for each,
-// lowest first, where those are long enough. So the weights stand in this frame alone, and no frame that reads a file holds them.
+// lowest first, where those are long enough. So the weights stand in this frame alone, and no frame that reads a file holds them. The sets are lent as to `judge`.
 pub fn judge_entry(
     table: &[u8],
     size: Size,

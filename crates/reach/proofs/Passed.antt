@@ -22,7 +22,7 @@ Among colours a c = (d : ℕ) → d < colours → a d ≡ true → c d ≡ true
 
 module _ (colours : ℕ) (row : List ℕ) (a b c e : ℕ → Bool) (d : ℕ) (l : d < colours) where
   image-more : Among colours a c → (map : ℕ → ℕ) → image colours map a d ≡ true → image colours map c d ≡ true
-  image-more h map = some-mono (λ i. a i && eqb (map i) d) (λ i. c i && eqb (map i) d) colours (λ i m t. let s = and-both (a i) (eqb (map i) d) t in both-true (h i m (s .0)) (s .1))
+  image-more h map = some-mono (λ i. eqb (map i) d && a i) (λ i. eqb (map i) d && c i) colours (λ i m t. let s = and-both (eqb (map i) d) (a i) t in both-true (s .0) (h i m (s .1)))
 
   gate-more : Among colours a c → (g : Bool) → (a d && g) ≡ true → (c d && g) ≡ true
   gate-more h g t = let s = and-both (a d) g t in both-true (h d l (s .0)) (s .1)

@@ -26,9 +26,9 @@ module _ (f : Netlist) (k : ℕ) (low : k < f .components) (s : ℕ → ℕ → 
   -- a map's colours
   by-image : (map : ℕ → ℕ) (p : Port) → ((d : ℕ) → At A d → At p (map d)) → (d : ℕ) → image (f .colours) map (s (port row A)) d ≡ true → At p d
   by-image map p h d t =
-      let m = some-is (λ e. s (port row A) e && eqb (map e) d) (f .colours) t in
-      let q = and-both (s (port row A) (m .0)) (eqb (map (m .0)) d) (m .2) in
-      subst (At p) (eqb-true (map (m .0)) d (q .1)) (h (m .0) (inside A (m .0) (q .0)))
+      let m = some-is (λ e. eqb (map e) d && s (port row A) e) (f .colours) t in
+      let q = and-both (eqb (map (m .0)) d) (s (port row A) (m .0)) (m .2) in
+      subst (At p) (eqb-true (map (m .0)) d (q .0)) (h (m .0) (inside A (m .0) (q .1)))
 
   out : (n : Kind) → kind row ≡ n → (p : Port) → isOutput (portUse n p) ≡ true → (d : ℕ) → d < f .colours
       → passed n p (f .colours) row (s (port row A)) (s (port row B)) d ≡ true → At p d
@@ -103,7 +103,7 @@ module _ (f : Netlist) (ends order : List ℕ) (a : AcceptedFabric f ends order)
 
     -- a map's colour
     in-image : (map : ℕ → ℕ) (g : ℕ → Bool) (d : ℕ) → d < f .colours → g d ≡ true → image (f .colours) map g (map d) ≡ true
-    in-image map g d l t = some-at (λ e. g e && eqb (map e) (map d)) (f .colours) d l (both-true t (eq-eqb (map d) (map d) refl))
+    in-image map g d l t = some-at (λ e. eqb (map e) (map d) && g e) (f .colours) d l (both-true (eq-eqb (map d) (map d) refl) t)
 
     pub closed-reaches : {x d : ℕ} → Reaches f x d → s x d ≡ true
     unfolding passed portUse

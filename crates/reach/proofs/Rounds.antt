@@ -21,7 +21,7 @@ use Rattle.reach.proofs.Passed.{passed-more}
 use Rattle.reach.proofs.Reaches.{passed-reaches, reaches-below, closed-reaches}
 
 module _ (f : Netlist) (ends order : List ℕ) (a : AcceptedFabric f ends order) where
-  -- more comes out of a round where more goes in
+  -- more goes out of a component where more comes in
   passed-at-more : (s t : ℕ → ℕ → Bool) → ((x d : ℕ) → x < f .channels → s x d ≡ true → t x d ≡ true) → (k : ℕ) → k < f .components → (p : Port) (d : ℕ) → passedAt f s k p d ≡ true → passedAt f t k p d ≡ true
   passed-at-more s t h k low p d e =
       let r = rowOf f k in
@@ -30,10 +30,11 @@ module _ (f : Netlist) (ends order : List ℕ) (a : AcceptedFabric f ends order)
       (λ _ i _. h (port r A) i (a .rows k low .ports A)) (λ _ i _. h (port r B) i (a .rows k low .ports B)) (z .1) in
       rw (z .0, more)
 
-  -- the component that gives to channel x
+  -- the offer of a channel is a signal
   offer-below : (x : ℕ) → x < f .channels → 2 * x < 2 * f .channels
   offer-below x l = omega arith
 
+  -- more comes out of a round where more goes in
   round-more : (s t : ℕ → ℕ → Bool) → ((x d : ℕ) → x < f .channels → s x d ≡ true → t x d ≡ true) → (x d : ℕ) → x < f .channels → round f s x d ≡ true → round f t x d ≡ true
   unfolding round
   round-more s t h x d l e = passed-at-more s t h _ (giver f ends order a (2 * x) (offer-below x l)) _ d e

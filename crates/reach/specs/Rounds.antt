@@ -13,7 +13,7 @@ use Rattle.netlist.specs.Netlist.{Netlist, rowOf}
 
 -- the colours that a map makes of those in a set
 abbrev pub image : ℕ → (ℕ → ℕ) → (ℕ → Bool) → ℕ → Bool
-image colours map set d = some colours (λ e. set e && eqb (map e) d)
+image colours map set d = some colours (λ e. eqb (map e) d && set e)
 
 -- The colours that go out at an output port, where those in a come in at port A and those in b at port B.
 unfoldable pub passed : Kind → Port → ℕ → List ℕ → (ℕ → Bool) → (ℕ → Bool) → ℕ → Bool

@@ -63,8 +63,8 @@ module _ {colours : ℕ} {row : List ℕ} {a b : ℕ} (k : Fed colours row a b) 
   -- a map's colours are below C
   image-below : (map : ℕ → ℕ) → ((d : ℕ) → d < colours → map d < colours) → (d : ℕ) → image colours map (hasColour a) d ≡ true → d < colours
   image-below map low d t =
-      let m = some-is (λ e. hasColour a e && eqb (map e) d) colours t in
-      let q = eqb-true (map (m .0)) d (and-both (hasColour a (m .0)) (eqb (map (m .0)) d) (m .2) .1) in
+      let m = some-is (λ e. eqb (map e) d && hasColour a e) colours t in
+      let q = eqb-true (map (m .0)) d (and-both (eqb (map (m .0)) d) (hasColour a (m .0)) (m .2) .0) in
       omega (arith, low (m .0) (m .1))
 
   pub out-function : (p : Port) {r : ℕ} → IsSet r (image colours (firstMap row) (hasColour a)) → Lets colours row a b function p r

@@ -2,6 +2,6 @@ pub mod Sets
 pub mod LetOut
 pub mod Adding
 pub mod PassOut
-pub mod Heads
+pub mod Targets
 pub mod PassOn
 pub mod WorkOut

@@ -26,14 +26,14 @@ use Rattle.reach.specs.Reaches.{Reaches}
 use Rattle.reach.specs.Rounds.{passed, passedAt}
 use Rattle.reach.proofs.Passed.{Among, passed-more}
 use Rattle.reach.proofs.Reaches.{passed-reaches, reaches-below}
-use Rattle.spread.specs.Spread.{IsSet, Below, inBytes, Heads, grownSet, listed, Spreading, Waits, Covered, PassedOn}
+use Rattle.spread.specs.Spread.{IsSet, Below, inBytes, Targets, grownSet, listed, Spreading, Waits, Covered, PassedOn}
 
 -- component k at its output port p, where more is what it lets out
-pub record Passing (f : Netlist) (heads : List ℕ) (next : ℕ) (sets list : List ℕ) (n k : ℕ) (p : Port) (more : ℕ) : Type 0 where
+pub record Passing (f : Netlist) (targets : List ℕ) (next : ℕ) (sets list : List ℕ) (n k : ℕ) (p : Port) (more : ℕ) : Type 0 where
   pub ends : List ℕ
   pub order : List ℕ
   pub accepted : AcceptedFabric f ends order
-  pub headed : Heads f (f .components) heads
+  pub targeted : Targets f (f .components) targets
   pub spreading : Spreading f sets list n
   pub turn : k < next
   pub within : next ≤ f .components
@@ -41,7 +41,7 @@ pub record Passing (f : Netlist) (heads : List ℕ) (next : ℕ) (sets list : Li
   pub fits : more < 256
   pub lets : IsSet more (λ d. ltb d (f .colours) && passed (kind (rowOf f k)) p (f .colours) (rowOf f k) (hasColour (getD sets (port (rowOf f k) A) 0)) (hasColour (getD sets (port (rowOf f k) B) 0)) d)
 
-module _ {f : Netlist} {heads sets list : List ℕ} {next n k more : ℕ} {p : Port} (h : Passing f heads next sets list n k p more) where
+module _ {f : Netlist} {targets sets list : List ℕ} {next n k more : ℕ} {p : Port} (h : Passing f targets next sets list n k p more) where
   low : k < f .components
   low = omega (arith, h .turn, h .within)
 
@@ -189,24 +189,24 @@ module _ {f : Netlist} {heads sets list : List ℕ} {next n k more : ℕ} {p : P
   is-new b e = eqb-false _ _ (not-true (eqb (grownSet sets x more) (getD sets x 0)) (and-both (not (eqb (grownSet sets x more) (getD sets x 0))) b e .0))
 
   -- so there is room on the list
-  room : listed sets heads next x more ≡ true → n < mostFlows
+  room : listed sets targets next x more ≡ true → n < mostFlows
   unfolding members
-  room e = omega (arith, members-new (is-new (ltb (getD heads x 0) next) e), h .spreading .few, count-le (λ v. inBytes after (v / 8) (v % 8)) (8 * f .channels), h .accepted .fewChannels)
+  room e = omega (arith, members-new (is-new (ltb (getD targets x 0) next) e), h .spreading .few, count-le (λ v. inBytes after (v / 8) (v % 8)) (8 * f .channels), h .accepted .fewChannels)
 
   -- ---- the list after it
-  module _ {sets′ list′ : List ℕ} {n′ : ℕ} (es : sets′ ≡ after) (el : list′ ≡ cond (listed sets heads next x more) (set list n (getD heads x 0)) list) (en : n′ ≡ cond (listed sets heads next x more) (n + 1) n) where
+  module _ {sets′ list′ : List ℕ} {n′ : ℕ} (es : sets′ ≡ after) (el : list′ ≡ cond (listed sets targets next x more) (set list n (getD targets x 0)) list) (en : n′ ≡ cond (listed sets targets next x more) (n + 1) n) where
     -- the ways of the list
     data Way : Type 0 where
-      put : not (eqb (grownSet sets x more) (getD sets x 0)) ≡ true → getD heads x 0 < next → list′ ≡ set list n (getD heads x 0) → n′ ≡ n + 1 → Way
-      later : next ≤ getD heads x 0 → list′ ≡ list → n′ ≡ n → Way
+      put : not (eqb (grownSet sets x more) (getD sets x 0)) ≡ true → getD targets x 0 < next → list′ ≡ set list n (getD targets x 0) → n′ ≡ n + 1 → Way
+      later : next ≤ getD targets x 0 → list′ ≡ list → n′ ≡ n → Way
       old : grownSet sets x more ≡ getD sets x 0 → list′ ≡ list → n′ ≡ n → Way
 
     way : Way
-    way = go (not (eqb (grownSet sets x more) (getD sets x 0))) refl (ltb (getD heads x 0) next) refl el en
+    way = go (not (eqb (grownSet sets x more) (getD sets x 0))) refl (ltb (getD targets x 0) next) refl el en
       where
-        go : (b : Bool) → not (eqb (grownSet sets x more) (getD sets x 0)) ≡ b → (c : Bool) → ltb (getD heads x 0) next ≡ c → list′ ≡ cond (b && c) (set list n (getD heads x 0)) list → n′ ≡ cond (b && c) (n + 1) n → Way
-        go true q true r a b = put q (ltb-true (getD heads x 0) next r) a b
-        go true q false r a b = later (ltb-false (getD heads x 0) next r) a b
+        go : (b : Bool) → not (eqb (grownSet sets x more) (getD sets x 0)) ≡ b → (c : Bool) → ltb (getD targets x 0) next ≡ c → list′ ≡ cond (b && c) (set list n (getD targets x 0)) list → n′ ≡ cond (b && c) (n + 1) n → Way
+        go true q true r a b = put q (ltb-true (getD targets x 0) next r) a b
+        go true q false r a b = later (ltb-false (getD targets x 0) next r) a b
         go false q c r a b = old (eqb-true (grownSet sets x more) (getD sets x 0) (not-false (eqb (grownSet sets x more) (getD sets x 0)) q)) a b
 
     more-listed : n ≤ n′
@@ -222,7 +222,7 @@ module _ {f : Netlist} {heads sets list : List ℕ} {next n k more : ℕ} {p : P
     still-waits from j (i, lo, hi, e) = go way
       where
         go : Way → Waits list′ from n′ j
-        go (put q l a b) = (i, lo, omega arith, ap (λ (w : List ℕ). getD w i 0) a ∙ getD-set-other list n i (getD heads x 0) 0 (λ z. omega arith) ∙ e)
+        go (put q l a b) = (i, lo, omega arith, ap (λ (w : List ℕ). getD w i 0) a ∙ getD-set-other list n i (getD targets x 0) 0 (λ z. omega arith) ∙ e)
         go (later l a b) = (i, lo, omega arith, ap (λ (w : List ℕ). getD w i 0) a ∙ e)
         go (old q a b) = (i, lo, omega arith, ap (λ (w : List ℕ). getD w i 0) a ∙ e)
 
@@ -251,23 +251,23 @@ module _ {f : Netlist} {heads sets list : List ℕ} {next n k more : ℕ} {p : P
             by-place (no z) = unread q z d m e
 
         -- component j takes from x
-        takes : (q : Port) → isInput (portUse (kind row) q) ≡ true → port row q ≡ x → getD heads x 0 ≡ j
-        takes q i e = ap (λ (w : ℕ). getD heads w 0) (sym e) ∙ h .headed .at j (omega (arith, l, h .within)) q i
+        takes : (q : Port) → isInput (portUse (kind row) q) ≡ true → port row q ≡ x → getD targets x 0 ≡ j
+        takes q i e = ap (λ (w : ℕ). getD targets w 0) (sym e) ∙ h .targeted .at j (omega (arith, l, h .within)) q i
 
-        here : not (eqb (grownSet sets x more) (getD sets x 0)) ≡ true → getD heads x 0 < next → list′ ≡ set list n (getD heads x 0) → n′ ≡ n + 1 → getD heads x 0 ≡ j → (from : ℕ) → from ≤ n → Waits list′ from n′ j
+        here : not (eqb (grownSet sets x more) (getD sets x 0)) ≡ true → getD targets x 0 < next → list′ ≡ set list n (getD targets x 0) → n′ ≡ n + 1 → getD targets x 0 ≡ j → (from : ℕ) → from ≤ n → Waits list′ from n′ j
         here q g a b e from m =
-            let l = room (both-true q (lt-ltb (getD heads x 0) next g)) in
-            (n, m, omega arith, ap (λ (w : List ℕ). getD w n 0) a ∙ getD-set-same list n (getD heads x 0) 0 (omega (arith, l, h .spreading .listLong)) ∙ e)
+            let l = room (both-true q (lt-ltb (getD targets x 0) next g)) in
+            (n, m, omega arith, ap (λ (w : List ℕ). getD w n 0) a ∙ getD-set-same list n (getD targets x 0) 0 (omega (arith, l, h .spreading .listLong)) ∙ e)
 
-        by-input : (q : Port) → Dec (port row q ≡ x) → Same j q ⊎ (getD heads x 0 ≡ j)
+        by-input : (q : Port) → Dec (port row q ≡ x) → Same j q ⊎ (getD targets x 0 ≡ j)
         by-input q (no z) = inl (λ i. unread q z)
         by-input q (yes z) = reads (isInput (portUse (kind row) q)) refl
           where
-            reads : (t : Bool) → isInput (portUse (kind row) q) ≡ t → Same j q ⊎ (getD heads x 0 ≡ j)
+            reads : (t : Bool) → isInput (portUse (kind row) q) ≡ t → Same j q ⊎ (getD targets x 0 ≡ j)
             reads true e = inr (takes q e z)
             reads false e = inl (λ i. absurd (false≢true (sym e ∙ i)))
 
-        all-inputs : Same j A ⊎ (getD heads x 0 ≡ j) → Same j B ⊎ (getD heads x 0 ≡ j) → Same j C ⊎ (getD heads x 0 ≡ j) → Quiet j ⊎ (getD heads x 0 ≡ j)
+        all-inputs : Same j A ⊎ (getD targets x 0 ≡ j) → Same j B ⊎ (getD targets x 0 ≡ j) → Same j C ⊎ (getD targets x 0 ≡ j) → Quiet j ⊎ (getD targets x 0 ≡ j)
         all-inputs (inr e) b c = inr e
         all-inputs (inl a) (inr e) c = inr e
         all-inputs (inl a) (inl b) (inr e) = inr e
@@ -278,7 +278,7 @@ module _ {f : Netlist} {heads sets list : List ℕ} {next n k more : ℕ} {p : P
             all B = b
             all C = c
 
-        or-here : Quiet j ⊎ (getD heads x 0 ≡ j) → (getD heads x 0 ≡ j → (from : ℕ) → from ≤ n → Waits list′ from n′ j) → Quiet j ⊎ ((from : ℕ) → from ≤ n → Waits list′ from n′ j)
+        or-here : Quiet j ⊎ (getD targets x 0 ≡ j) → (getD targets x 0 ≡ j → (from : ℕ) → from ≤ n → Waits list′ from n′ j) → Quiet j ⊎ ((from : ℕ) → from ≤ n → Waits list′ from n′ j)
         or-here (inl q) g = inl q
         or-here (inr e) g = inr (g e)
 
@@ -322,7 +322,7 @@ module _ {f : Netlist} {heads sets list : List ℕ} {next n k more : ℕ} {p : P
     }
       where
         long : Way → length list′ ≡ mostFlows
-        long (put q l a b) = ap length a ∙ length-set list n (getD heads x 0) ∙ h .spreading .listLong
+        long (put q l a b) = ap length a ∙ length-set list n (getD targets x 0) ∙ h .spreading .listLong
         long (later l a b) = ap length a ∙ h .spreading .listLong
         long (old q a b) = ap length a ∙ h .spreading .listLong
 
@@ -336,10 +336,10 @@ module _ {f : Netlist} {heads sets list : List ℕ} {next n k more : ℕ} {p : P
         names (old q a b) i m = subst (λ (w : List ℕ). getD w i 0 < f .components) (sym a) (h .spreading .named i (omega arith))
         names (put q l a b) i m = subst (λ (w : List ℕ). getD w i 0 < f .components) (sym a) (by-place (ℕ-discrete i n))
           where
-            by-place : Dec (i ≡ n) → getD (set list n (getD heads x 0)) i 0 < f .components
-            by-place (yes e) = subst (λ (w : ℕ). getD (set list n (getD heads x 0)) w 0 < f .components) (sym e)
-                (subst (λ (w : ℕ). w < f .components) (sym (getD-set-same list n (getD heads x 0) 0 (omega (arith, room (both-true q (lt-ltb (getD heads x 0) next l)), h .spreading .listLong)))) (omega (arith, h .within)))
-            by-place (no e) = subst (λ (w : ℕ). w < f .components) (sym (getD-set-other list n i (getD heads x 0) 0 e)) (h .spreading .named i (omega arith))
+            by-place : Dec (i ≡ n) → getD (set list n (getD targets x 0)) i 0 < f .components
+            by-place (yes e) = subst (λ (w : ℕ). getD (set list n (getD targets x 0)) w 0 < f .components) (sym e)
+                (subst (λ (w : ℕ). w < f .components) (sym (getD-set-same list n (getD targets x 0) 0 (omega (arith, room (both-true q (lt-ltb (getD targets x 0) next l)), h .spreading .listLong)))) (omega (arith, h .within)))
+            by-place (no e) = subst (λ (w : ℕ). w < f .components) (sym (getD-set-other list n i (getD targets x 0) 0 e)) (h .spreading .named i (omega arith))
 
     passed-on : PassedOn f next sets list n sets′ list′ n′ (λ q. q ≡ p) k
     passed-on =
@@ -352,16 +352,16 @@ module _ {f : Netlist} {heads sets list : List ℕ} {next n k more : ℕ} {p : P
 
   -- ---- with the channel as the code reads it
   module _ {y : ℕ} (e : y ≡ x) where
-    pub room-at : listed sets heads next y more ≡ true → n < mostFlows
-    room-at q = room (subst (λ (w : ℕ). listed sets heads next w more ≡ true) e q)
+    pub room-at : listed sets targets next y more ≡ true → n < mostFlows
+    room-at q = room (subst (λ (w : ℕ). listed sets targets next w more ≡ true) e q)
 
-    pub passed-at : {sets′ list′ : List ℕ} {n′ : ℕ} → (n′ ≡ cond (listed sets heads next y more) (n + 1) n) × (sets′ ≡ set sets y (grownSet sets y more)) × (list′ ≡ cond (listed sets heads next y more) (set list n (getD heads y 0)) list)
+    pub passed-at : {sets′ list′ : List ℕ} {n′ : ℕ} → (n′ ≡ cond (listed sets targets next y more) (n + 1) n) × (sets′ ≡ set sets y (grownSet sets y more)) × (list′ ≡ cond (listed sets targets next y more) (set list n (getD targets y 0)) list)
         → PassedOn f next sets list n sets′ list′ n′ (λ q. q ≡ p) k
     passed-at {sets′} {list′} {n′} q =
         passed-on
         (subst (λ (w : ℕ). sets′ ≡ set sets w (grownSet sets w more)) e (q .1))
-        (subst (λ (w : ℕ). list′ ≡ cond (listed sets heads next w more) (set list n (getD heads w 0)) list) e (q .2))
-        (subst (λ (w : ℕ). n′ ≡ cond (listed sets heads next w more) (n + 1) n) e (q .0))
+        (subst (λ (w : ℕ). list′ ≡ cond (listed sets targets next w more) (set list n (getD targets w 0)) list) e (q .2))
+        (subst (λ (w : ℕ). n′ ≡ cond (listed sets targets next w more) (n + 1) n) e (q .0))
 
 -- the sets have colours below C alone
 pub below-sets : {f : Netlist} {ends order sets list : List ℕ} {n : ℕ} → AcceptedFabric f ends order → Spreading f sets list n → (y : ℕ) → y < f .channels → Below (f .colours) (getD sets y 0)

@@ -8,6 +8,7 @@ use lib.Dec.{eqb, ltb}
 use borrow.Author.Tests.{lt-ltb}
 use native.Mathlib.Omega.{arith}
 use Rattle.digits.specs.Least.{least}
+use Rattle.digits.proofs.Bools.{and-swap}
 use Rattle.digits.proofs.Some.{some-more}
 use Rattle.component.proofs.Sets.{has-none, has-one, has-or}
 use Rattle.reach.specs.Rounds.{image}
@@ -48,5 +49,6 @@ image-none map set = set-none (image 0 map set) (λ d l. refl)
 pub image-more : (n : ℕ) (map : ℕ → ℕ) (set : ℕ → Bool) {made one c : ℕ} → IsSet made (image n map set) → c ≡ map n → IsSet one (λ d. set n && eqb c d) → IsSet (bitOr made one) (image (n + 1) map set)
 image-more n map set {made} {one} {c} h e k =
     set-same
-    (λ d l. ap (λ (x : ℕ). image n map set d || (set n && eqb x d)) e ∙ sym (some-more (λ i. set i && eqb (map i) d) n) ∙ ap (λ (m : ℕ). image m map set d) (sym (add-one n)))
+    (λ d l. ap (λ (x : ℕ). image n map set d || (set n && eqb x d)) e ∙ ap (λ (b : Bool). image n map set d || b) (and-swap (set n) (eqb (map n) d))
+    ∙ sym (some-more (λ i. eqb (map i) d && set i) n) ∙ ap (λ (m : ℕ). image m map set d) (sym (add-one n)))
     (set-or h k)

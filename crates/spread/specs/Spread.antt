@@ -1,5 +1,5 @@
--- The sets while they are worked out, and the list of components that have to pass on what came in. It describes the code; proofs/Spread.antt ties it
--- to the sets of crate reach.
+-- The sets while they are worked out, and the list of components that have to pass on what came in. It describes the code; `set-bytes`
+-- (proofs/WorkOut.antt) ties it to the sets of crate reach.
 use mathlib.Core.Path.{_≡_}
 use mathlib.Core.Logic.{_⊎_}
 use mathlib.Core.Bool.{Bool, true, not, _&&_}
@@ -39,10 +39,10 @@ pub record Outputs (n : Kind) (first : ℕ) (two : Bool) : Type 0 where
   pub second : two ≡ true → isOutput (portUse n C) ≡ true
   pub all : (p : Port) → isOutput (portUse n p) ≡ true → (p ≡ portOf first) ⊎ ((two ≡ true) × (p ≡ C))
 
--- heads has the component that takes from each channel, of the first n components
-pub record Heads (f : Netlist) (n : ℕ) (heads : List ℕ) : Type 0 where
-  pub long : length heads ≡ 256
-  pub at : (k : ℕ) → k < n → (p : Port) → isInput (portUse (kind (rowOf f k)) p) ≡ true → getD heads (port (rowOf f k) p) 0 ≡ k
+-- targets has the component that takes from each channel, of the first n components
+pub record Targets (f : Netlist) (n : ℕ) (targets : List ℕ) : Type 0 where
+  pub long : length targets ≡ 256
+  pub at : (k : ℕ) → k < n → (p : Port) → isInput (portUse (kind (rowOf f k)) p) ≡ true → getD targets (port (rowOf f k) p) 0 ≡ k
 
 -- the set of channel x with more colours
 abbrev pub grownSet : List ℕ → ℕ → ℕ → ℕ
@@ -50,7 +50,7 @@ grownSet sets x more = bitOr (getD sets x 0) more
 
 -- whether that puts the component that takes from x on the list: something is new, and the component is one of the first `next`
 abbrev pub listed : List ℕ → List ℕ → ℕ → ℕ → ℕ → Bool
-listed sets heads next x more = not (eqb (grownSet sets x more) (getD sets x 0)) && ltb (getD heads x 0) next
+listed sets targets next x more = not (eqb (grownSet sets x more) (getD sets x 0)) && ltb (getD targets x 0) next
 
 -- The sets are of colours that can reach their channels; the list is no longer than they have members.
 pub record Spreading (f : Netlist) (sets list : List ℕ) (n : ℕ) : Type 0 where

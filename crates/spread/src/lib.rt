@@ -13,7 +13,7 @@ ghost use Rattle.netlist.specs.Netlist.{netlistOf};
 ghost use Rattle.netlist.specs.Accepted.{AcceptedNetlist};
 ghost use Rattle.reach.specs.Rounds.{image, passed};
 ghost use Rattle.reach.specs.Known.{SetBytes};
-ghost use Rattle.spread.specs.Spread.{IsSet, Below, MapBelow, Heads, Outputs, grownSet, listed, Spreading, PassedOn};
+ghost use Rattle.spread.specs.Spread.{IsSet, Below, MapBelow, Targets, Outputs, grownSet, listed, Spreading, PassedOn};
 use component::MOST_FLOWS;
 use digits::wide;
 use netlist::Size;
@@ -99,15 +99,15 @@ fn add(
     sets: &mut [u8; SETS_SIZE],
     list: &mut [u8; MOST_FLOWS],
     n: usize,
-    heads: &[u8; SETS_SIZE],
+    targets: &[u8; SETS_SIZE],
     next: usize,
     x: usize,
     more: u8,
 ) -> usize
-    requires { ⌜ (x < 256) × (n ≤ mostFlows) × (listed (now sets) (now heads) next x more ≡ true → n < mostFlows) ⌝ }
-    ensures { λ r. ⌜ (r ≡ cond (listed (now (sets .entry)) (now (heads .entry)) next x more) (n + 1) n)
+    requires { ⌜ (x < 256) × (n ≤ mostFlows) × (listed (now sets) (now targets) next x more ≡ true → n < mostFlows) ⌝ }
+    ensures { λ r. ⌜ (r ≡ cond (listed (now (sets .entry)) (now (targets .entry)) next x more) (n + 1) n)
         × (now (sets .exit) ≡ set (now (sets .entry)) x (grownSet (now (sets .entry)) x more))
-        × (now (list .exit) ≡ cond (listed (now (sets .entry)) (now (heads .entry)) next x more) (set (now (list .entry)) n (getD (now (heads .entry)) x 0)) (now (list .entry))) ⌝ }
+        × (now (list .exit) ≡ cond (listed (now (sets .entry)) (now (targets .entry)) next x more) (set (now (list .entry)) n (getD (now (targets .entry)) x 0)) (now (list .entry))) ⌝ }
 {
     let old = sets[x];
     let all = old | more;
@@ -115,27 +115,27 @@ fn add(
         return n;
     }
     sets[x] = all;
-    let head = heads[x];
-    if next <= wide(head) {
+    let target = targets[x];
+    if next <= wide(target) {
         return n;
     }
-    list[n] = head;
+    list[n] = target;
     n + 1
 }
 
-// Component k lets out what it can at output port p.
+// Adds what goes out at output port p of component k to the set there.
 fn pass_out(
     table: &[u8],
     size: Size,
     k: usize,
     p: usize,
-    heads: &[u8; SETS_SIZE],
+    targets: &[u8; SETS_SIZE],
     next: usize,
     sets: &mut [u8; SETS_SIZE],
     list: &mut [u8; MOST_FLOWS],
     n: usize,
 ) -> usize
-    requires { ⌜ AcceptedNetlist (netlistOf size (now table)) × Heads (netlistOf size (now table)) (size .components) (now heads) × Spreading (netlistOf size (now table)) (now sets) (now list) n ⌝ }
+    requires { ⌜ AcceptedNetlist (netlistOf size (now table)) × Targets (netlistOf size (now table)) (size .components) (now targets) × Spreading (netlistOf size (now table)) (now sets) (now list) n ⌝ }
     requires { ⌜ (k < next) × (next ≤ size .components) × (p < 3) × (isOutput (portUse (kind (row (now table) k)) (portOf p)) ≡ true) ⌝ }
     ensures { λ r. ⌜ PassedOn (netlistOf size (now (table .entry))) next (now (sets .entry)) (now (list .entry)) n (now (sets .exit)) (now (list .exit)) r (λ q. q ≡ portOf p) k ⌝ }
 {
@@ -143,7 +143,7 @@ fn pass_out(
     let b = sets[wide(component::port(table, k, 1))];
     let x = wide(component::port(table, k, p));
     let more = let_out(table, size, k, p, a, b);
-    add(&mut *sets, &mut *list, n, heads, next, x, more)
+    add(&mut *sets, &mut *list, n, targets, next, x, more)
 }
 
 // The first output port of a kind that has one; forks and switches have C besides.
@@ -160,18 +160,18 @@ fn first_output(kind: u8) -> usize
     1
 }
 
-// Component k lets out what it can at each output port.
+// The same at each output port of component k.
 fn pass_on(
     table: &[u8],
     size: Size,
     k: usize,
-    heads: &[u8; SETS_SIZE],
+    targets: &[u8; SETS_SIZE],
     next: usize,
     sets: &mut [u8; SETS_SIZE],
     list: &mut [u8; MOST_FLOWS],
     n: usize,
 ) -> usize
-    requires { ⌜ AcceptedNetlist (netlistOf size (now table)) × Heads (netlistOf size (now table)) (size .components) (now heads) × Spreading (netlistOf size (now table)) (now sets) (now list) n ⌝ }
+    requires { ⌜ AcceptedNetlist (netlistOf size (now table)) × Targets (netlistOf size (now table)) (size .components) (now targets) × Spreading (netlistOf size (now table)) (now sets) (now list) n ⌝ }
     requires { ⌜ (k < next) × (next ≤ size .components) ⌝ }
     ensures { λ r. ⌜ PassedOn (netlistOf size (now (table .entry))) next (now (sets .entry)) (now (list .entry)) n (now (sets .exit)) (now (list .exit)) r (λ q. isOutput (portUse (kind (row (now (table .entry)) k)) q) ≡ true) k ⌝ }
 {
@@ -185,7 +185,7 @@ fn pass_on(
         size,
         k,
         first,
-        heads,
+        targets,
         next,
         &mut *sets,
         &mut *list,
@@ -194,31 +194,31 @@ fn pass_on(
     if (kind != 4) & (kind != 6) {
         return m;
     }
-    pass_out(table, size, k, 2, heads, next, &mut *sets, &mut *list, m)
+    pass_out(table, size, k, 2, targets, next, &mut *sets, &mut *list, m)
 }
 
 // Notes component k at the channels that it takes from.
-fn note_inputs(table: &[u8], size: Size, k: usize, heads: &mut [u8; SETS_SIZE])
-    requires { ⌜ AcceptedNetlist (netlistOf size (now table)) × (k < size .components) × Heads (netlistOf size (now table)) k (now heads) ⌝ }
-    ensures { λ _. ⌜ Heads (netlistOf size (now (table .entry))) (k + 1) (now (heads .exit)) ⌝ }
+fn note_inputs(table: &[u8], size: Size, k: usize, targets: &mut [u8; SETS_SIZE])
+    requires { ⌜ AcceptedNetlist (netlistOf size (now table)) × (k < size .components) × Targets (netlistOf size (now table)) k (now targets) ⌝ }
+    ensures { λ _. ⌜ Targets (netlistOf size (now (table .entry))) (k + 1) (now (targets .exit)) ⌝ }
 {
     let kind = component::kind(table, k);
     if kind == 0 {
         return;
     }
-    heads[wide(component::port(table, k, 0))] = k as u8;
+    targets[wide(component::port(table, k, 0))] = k as u8;
     if (kind == 5) | (kind == 7) {
-        heads[wide(component::port(table, k, 1))] = k as u8;
+        targets[wide(component::port(table, k, 1))] = k as u8;
     }
 }
 
 // The component that takes from each channel, into memory that comes in as zeros.
-fn note_heads(table: &[u8], size: Size, heads: &mut [u8; SETS_SIZE])
-    requires { ⌜ AcceptedNetlist (netlistOf size (now table)) × (now heads ≡ replicate 256 0) ⌝ }
-    ensures { λ _. ⌜ Heads (netlistOf size (now (table .entry))) (size .components) (now (heads .exit)) ⌝ }
+fn note_targets(table: &[u8], size: Size, targets: &mut [u8; SETS_SIZE])
+    requires { ⌜ AcceptedNetlist (netlistOf size (now table)) × (now targets ≡ replicate 256 0) ⌝ }
+    ensures { λ _. ⌜ Targets (netlistOf size (now (table .entry))) (size .components) (now (targets .exit)) ⌝ }
 {
     for k in 0..size.components {
-        note_inputs(table, size, k, &mut *heads);
+        note_inputs(table, size, k, &mut *targets);
     }
 }
 
@@ -228,12 +228,12 @@ pub fn work_out(table: &[u8], size: Size, sets: &mut [u8; SETS_SIZE])
     requires { ⌜ AcceptedNetlist (netlistOf size (now table)) × (now sets ≡ replicate 256 0) ⌝ }
     ensures { λ _. ⌜ SetBytes (netlistOf size (now (table .entry))) (now (sets .exit)) × (length (now (sets .exit)) ≡ 256) ⌝ }
 {
-    let mut heads = [0u8; SETS_SIZE];
-    note_heads(table, size, &mut heads);
+    let mut targets = [0u8; SETS_SIZE];
+    note_targets(table, size, &mut targets);
     let mut list = [0u8; MOST_FLOWS];
     let mut n: usize = 0;
     for k in 0..size.components {
-        n = pass_on(table, size, k, &heads, k + 1, &mut *sets, &mut list, n);
+        n = pass_on(table, size, k, &targets, k + 1, &mut *sets, &mut list, n);
     }
     let mut done: usize = 0;
     while done < n {
@@ -242,7 +242,7 @@ pub fn work_out(table: &[u8], size: Size, sets: &mut [u8; SETS_SIZE])
             table,
             size,
             k,
-            &heads,
+            &targets,
             size.components,
             &mut *sets,
             &mut list,

@@ -22,9 +22,9 @@ those that it accepts, smallest first:
 
     messages + credits = 2
 
-All others follow from these, but for sums that only say that a colour never
-comes to a queue, which 'panel reach' shows. The proposal of the first is
-written to proof.bin, those of all, 64 at most, to proofs.bin.
+All others follow from these and from what 'panel reach' shows: which colours
+never come to a queue. The proposal of the first is written to proof.bin, those
+of all, 64 at most, to proofs.bin.
 
   --sum N      writes the Nth sum, from 1, to proof.bin
   --from TEXT  takes the proposal in the text file TEXT, '-' for standard

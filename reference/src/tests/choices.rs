@@ -3,8 +3,8 @@
 use super::{merged, started};
 use crate::fabric::Fabric;
 use crate::refusal::number_and_place;
-use crate::samples::{credit_loop, source};
-use crate::{run, Component};
+use crate::run;
+use crate::samples::{credit_loop, emits};
 
 fn answer(fabric: &Fabric, choices: &[u8]) -> (u32, u64) {
     number_and_place(&run(&fabric.to_file(), &mut started(fabric), choices))
@@ -23,10 +23,7 @@ fn merges_and_sinks_choose_0_or_1() {
 fn a_source_chooses_what_it_emits() {
     let mut fabric = merged();
     fabric.colours = 8;
-    fabric.components[0] = Component {
-        mask: 0x11,
-        ..source(0)
-    };
+    fabric.components[0] = emits(0x11, 0);
     for choice in [0, 4, 8] {
         assert_eq!(answer(&fabric, &[choice, 0, 0, 0]), (0, 0));
     }

@@ -3,7 +3,7 @@
 use super::function;
 use crate::component::{Component, Kind};
 use crate::equations::{equation, Flow};
-use crate::samples::{queue, source};
+use crate::samples::{emits, queue, source};
 
 /// Channel, colour and factor of each flow, in ascending order, or `None` if there is no such
 /// equation.
@@ -43,10 +43,7 @@ fn the_indexes_of_each_kind() {
     }
     assert_eq!(of(Kind::Join, 1), [0, 8]);
     assert_eq!(of(Kind::Join, 8), (0..9).collect::<Vec<_>>());
-    let emits_1_and_3 = Component {
-        mask: 0x50,
-        ..source(0)
-    };
+    let emits_1_and_3 = emits(0x50, 0);
     assert_eq!(indexes(&emits_1_and_3, 4), [0, 2]);
     assert_eq!(indexes(&emits_1_and_3, 8), [0, 2, 4, 5, 6, 7]);
 }

@@ -1,21 +1,12 @@
 //! The check ignores a leftover flow outside the colour sets, and no other; worked out by hand.
 
-use super::{ceiling_answer, check_answer, emits, term};
+use super::{ceiling_answer, check_answer, term};
 use crate::component::{Component, Kind};
 use crate::fabric::Fabric;
 use crate::left::Left;
 use crate::listing;
-use crate::samples::{credit_loop, queue, sink, source};
+use crate::samples::{colour_0_alone, credit_loop, emits, queue, sink, source};
 use crate::terms::{write_proposal, Term};
-
-/// A source of colour 0, a queue and a sink; colour 1 never comes.
-fn colour_0_alone() -> Fabric {
-    Fabric {
-        colours: 2,
-        channels: 2,
-        components: vec![source(0), queue(0, 1, 1, 0), sink(1)],
-    }
-}
 
 fn listed(fabric: &Fabric, terms: &[Term]) -> String {
     listing(&fabric.to_file(), &write_proposal(terms))
@@ -100,7 +91,7 @@ fn a_credit_loop_without_credits() {
     assert_eq!(check_answer(&credit_loop(), &[term(2, 0, 3)]), (13, 16));
 }
 
-/// What is refused without the sets for a flow is then refused for what comes next.
+/// 14 where no weight is left, whatever flows are outside; 12 comes first.
 #[test]
 fn without_a_weight_it_is_14() {
     let fabric = colour_0_alone();

@@ -3,15 +3,12 @@
 use super::{first_bytes, function, merged, moves, source_then_sink, started};
 use crate::component::{Component, Kind};
 use crate::fabric::Fabric;
-use crate::samples::{queue, sink, source};
+use crate::samples::{emits, queue, sink};
 
 const TURNED: [u8; 8] = [1, 2, 0, 0, 0, 0, 0, 0];
 
 fn emits_three(a: u8) -> Component {
-    Component {
-        mask: 0xE0,
-        ..source(a)
-    }
+    emits(0xE0, a)
 }
 
 #[test]

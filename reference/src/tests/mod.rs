@@ -24,7 +24,6 @@ mod order_of_step;
 mod panels;
 mod persistence;
 mod places;
-
 mod proposal_text;
 mod proposals;
 mod ranges;
@@ -35,6 +34,7 @@ mod round_trips;
 mod rounds;
 mod runs;
 mod shortest_circles;
+mod smallest_sets;
 mod solver;
 mod space;
 mod sparse;
@@ -100,11 +100,6 @@ fn packed(fabric: &Fabric) -> Vec<u8> {
 
 fn function(a: u8, b: u8) -> Component {
     Component::new(Kind::Function, [a, b, 0])
-}
-
-/// A source with these colours.
-fn emits(mask: u8, a: u8) -> Component {
-    Component { mask, ..source(a) }
 }
 
 /// What an accepted reach writes.

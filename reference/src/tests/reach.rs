@@ -1,9 +1,9 @@
 //! The colours that can reach a channel, kind by kind, worked out by hand.
 
-use super::{emits, function, sets};
+use super::{function, sets};
 use crate::component::{Component, Kind};
 use crate::fabric::Fabric;
-use crate::samples::{credit_loop, queue, sink};
+use crate::samples::{credit_loop, emits, queue, sink};
 
 fn fabric(colours: usize, channels: usize, components: Vec<Component>) -> Fabric {
     Fabric {

@@ -1,11 +1,9 @@
-//! Sets that take many rounds, and that they are the smallest that the rules close.
+//! Sets that take many rounds, worked out by hand.
 
-use super::{emits, fabric_of, function, sets};
+use super::{function, sets};
 use crate::component::{Component, Kind};
 use crate::fabric::Fabric;
-use crate::random::Random;
-use crate::reach::ColourSets;
-use crate::samples::{queue, queue_row, sink};
+use crate::samples::{emits, queue, queue_row, sink};
 
 /// Each function takes a colour to the next one.
 const TO_THE_NEXT: [u8; 8] = [1, 2, 3, 4, 5, 6, 7, 7];
@@ -88,35 +86,4 @@ fn a_join_that_waits_for_many_rounds() {
     expected.extend([0xC0, 0xC0]);
     assert_eq!(sets(&fabric), expected);
     assert_eq!(sets(&fabric.laid_backwards()), expected);
-}
-
-/// The order in which the components stand changes nothing.
-#[test]
-fn of_random_fabrics_in_any_order() {
-    let mut not_full = 0;
-    for number in 0..200 {
-        let random = &mut Random::new(41, number);
-        let mut fabric = fabric_of(random);
-        let found = sets(&fabric);
-        let all = !(0xFF_u32 >> fabric.colours) as u8;
-        assert!(found.iter().all(|mask| mask & !all == 0), "{number}");
-        not_full += u32::from(found.iter().any(|&mask| mask != all));
-        random.shuffle(&mut fabric.components);
-        assert_eq!(sets(&fabric), found, "fabric {number}");
-    }
-    assert!(not_full > 100, "{not_full}");
-}
-
-#[test]
-fn the_mask_bytes_are_the_sets() {
-    for number in 0..50 {
-        let fabric = fabric_of(&mut Random::new(42, number));
-        let by_flow = ColourSets::of(&fabric);
-        for (channel, mask) in sets(&fabric).into_iter().enumerate() {
-            for d in 0..8 {
-                let member = by_flow.has(8 * channel + d);
-                assert_eq!(0x80 >> d & mask != 0, member, "fabric {number}");
-            }
-        }
-    }
 }

@@ -95,11 +95,14 @@ fn every_flow_inside_the_sets_cancels() {
 
 #[test]
 fn every_flow_cancels() {
+    let mut accepted = 0;
     for number in 0..100 {
         let random = &mut Random::new(7, number);
         let fabric = fabric_of(random);
         let terms = Equations::everywhere(&fabric).cancelling_terms(random);
         let left = Left::of(&fabric, &write_proposal(&terms));
         assert_eq!(left, Left::Nothing, "fabric {number}");
+        accepted += u32::from(check_answer(&fabric, &terms) == (0, 0));
     }
+    assert!(accepted > 70, "{accepted}");
 }

@@ -1,8 +1,8 @@
 //! The sums of a fabric: all of them, none twice, small ones first.
 
-use super::{check_answer, term};
+use super::{check_answer, sets, term};
 use crate::check::judged;
-use crate::component::{Kind, MOST_COLOURS};
+use crate::component::{Component, Kind, MOST_COLOURS};
 use crate::equations::{equation, INDEXES};
 use crate::fabric::Fabric;
 use crate::left::Left;
@@ -69,7 +69,7 @@ fn a_sum_that_needs_the_sets() {
 
 #[test]
 fn all_of_random_fabrics_are_accepted_independent_and_all_there_are() {
-    let mut all = 0;
+    let (mut all, mut never) = (0, 0);
     for number in 0..240 {
         let fabric = random_one(number, &[2, 6, 12, 20]);
         let found = sum_basis(&fabric);
@@ -79,11 +79,15 @@ fn all_of_random_fabrics_are_accepted_independent_and_all_there_are() {
         let weights: Vec<Vec<i64>> = weights_of(&fabric, &found.sums);
         let rows = weights.iter().map(|row| wide(row)).collect();
         assert_eq!(rank(rows), found.sums.len(), "fabric {number}");
-        let there_are = dimension(&fabric) - found.never_queued;
+        let never_queued = never_queued(&fabric);
+        assert_eq!(found.never_queued, never_queued, "fabric {number}");
+        let there_are = dimension(&fabric) - never_queued;
         assert_eq!(found.sums.len() + found.left_out, there_are, "{number}");
         all += there_are;
+        never += never_queued;
     }
     assert!(all > 300, "{all}");
+    assert!(never > 2000, "{never}");
 }
 
 #[test]
@@ -219,6 +223,17 @@ fn dimension(fabric: &Fabric) -> usize {
     let (of_queues, others) = (rows(of_queues), rows(others));
     let all = [of_queues.clone(), others.clone()].concat();
     of_queues.len() + rank(others) - rank(all)
+}
+
+/// How many queues and colours below C there are such that the queue's output does not have the colour.
+fn never_queued(fabric: &Fabric) -> usize {
+    let sets = sets(fabric);
+    let is_queue = |component: &&Component| component.kind == Kind::Queue;
+    let queues = fabric.components.iter().filter(is_queue);
+    let masks = queues.map(|queue| sets[usize::from(queue.ports[1])]);
+    masks
+        .map(|mask| fabric.colours - mask.count_ones() as usize)
+        .sum()
 }
 
 /// Those inside the sets.

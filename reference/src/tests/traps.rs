@@ -1,9 +1,9 @@
 //! The traps that the document names.
 
-use super::{check_answer, emits, first_bytes, moves, source_then_sink, started, term};
+use super::{check_answer, first_bytes, moves, source_then_sink, started, term};
 use crate::component::{Component, Kind};
 use crate::fabric::Fabric;
-use crate::samples::{queue, sink, source};
+use crate::samples::{emits, queue, sink, source};
 
 #[test]
 fn a_full_queue_does_not_take_though_it_gives() {

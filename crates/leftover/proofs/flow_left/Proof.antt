@@ -39,7 +39,7 @@ lowest-in-requires c κs =
     let w = c .before in
     let l = w .before .before .before .before in
     let b = l .before .before .before .before .before in
-    (first-le (b .args .s .now) (8 * b .args .size .channels) (l .lowest .ensures), flows-few b, flows-in (w .work-out .ensures .0), zeros-below (b .args .s .now) (8 * b .args .size .channels) (l .lowest .ensures))
+    (omega (arith, first-le (b .args .s .now) (8 * b .args .size .channels) (l .lowest .ensures)), flows-few b, flows-in (w .work-out .ensures .0), zeros-below (b .args .s .now) (8 * b .args .size .channels) (l .lowest .ensures))
 
 returns-2 : tie.Need-returns-2
 returns-2 c =
@@ -50,7 +50,7 @@ lowest-in-requires-2 : tie.Need-lowest-in-requires-2
 lowest-in-requires-2 c κs =
     let l = c .before .before in
     let b = l .before .before .before .before .before in
-    (first-le (b .args .s .now) (8 * b .args .size .channels) (l .lowest .ensures), flows-few b, flows-in (given b (c .if2 .left)), zeros-below (b .args .s .now) (8 * b .args .size .channels) (l .lowest .ensures))
+    (omega (arith, first-le (b .args .s .now) (8 * b .args .size .channels) (l .lowest .ensures)), flows-few b, flows-in (given b (c .if2 .left)), zeros-below (b .args .s .now) (8 * b .args .size .channels) (l .lowest .ensures))
 
 returns-3 : tie.Need-returns-3
 returns-3 c =

@@ -1,4 +1,4 @@
-use Rattle.spread.proofs.Heads.{out-first, out-later}
+use Rattle.spread.proofs.Targets.{out-first, out-later}
 use Rattle.spread.proofs.first_output.Statement.{statement}
 use Rattle.spread.proofs.first_output.Tie as tie
 

@@ -6,7 +6,7 @@ use lib.Dec.{lit<}
 use lib.ListN.{length}
 use Rattle.record.specs.Sizes.{rowSize}
 use Rattle.component.specs.Kind.{portOf}
-use Rattle.spread.proofs.Heads.{note-none, note-one, note-two}
+use Rattle.spread.proofs.Targets.{note-none, note-one, note-two}
 use Rattle.spread.proofs.note_inputs.Statement.{statement}
 use Rattle.spread.proofs.note_inputs.Tie as tie
 
@@ -24,8 +24,8 @@ returns c =
     let b = c .before .before .before in
     note-none _ (b .pre .0) _ (b .pre .1) _ (b .pre .2) (c .before .kind .ensures) (c .if1 .taken)
 
-cast-heads : tie.Need-cast-heads
-cast-heads c = omega (arith, few (c .before .before .before))
+cast-targets : tie.Need-cast-targets
+cast-targets c = omega (arith, few (c .before .before .before))
 
 port-requires : tie.Need-port-requires
 port-requires c κs = (rows (c .before .before .before), lit< tt)
@@ -33,11 +33,11 @@ port-requires c κs = (rows (c .before .before .before), lit< tt)
 wide-requires : tie.Need-wide-requires
 wide-requires c κs = search needs
 
-element-write-heads : tie.Need-element-write-heads
-element-write-heads c = search needs
+element-write-targets : tie.Need-element-write-targets
+element-write-targets c = search needs
 
-cast-heads-2 : tie.Need-cast-heads-2
-cast-heads-2 c = omega (arith, few (c .before .before .before .before .before .before))
+cast-targets-2 : tie.Need-cast-targets-2
+cast-targets-2 c = omega (arith, few (c .before .before .before .before .before .before))
 
 port-requires-2 : tie.Need-port-requires-2
 port-requires-2 c κs = (rows (c .before .before .before .before .before .before), lit< tt)
@@ -45,8 +45,8 @@ port-requires-2 c κs = (rows (c .before .before .before .before .before .before
 wide-requires-2 : tie.Need-wide-requires-2
 wide-requires-2 c κs = search needs
 
-element-write-heads-2 : tie.Need-element-write-heads-2
-element-write-heads-2 c = search needs
+element-write-targets-2 : tie.Need-element-write-targets-2
+element-write-targets-2 c = search needs
 
 returns-2 : tie.Need-returns-2
 unfolding portOf
@@ -70,13 +70,13 @@ note-inputs-spec =
     (tie.spec
     kind-requires
     returns
-    cast-heads
+    cast-targets
     port-requires
     wide-requires
-    element-write-heads
-    cast-heads-2
+    element-write-targets
+    cast-targets-2
     port-requires-2
     wide-requires-2
-    element-write-heads-2
+    element-write-targets-2
     returns-2
     returns-3)

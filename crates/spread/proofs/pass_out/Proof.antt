@@ -54,7 +54,7 @@ at-p c = c .wide3 .ensures .0 ∙ c .before .port3 .ensures
 
 passing : (c : tie.After-let-out) →
     let b = c .before .before .before .before .before .before .before .before .before .before in
-    Passing (f b) (b .args .heads .now) (b .args .next) (b .args .sets .now) (b .args .list .now) (b .args .n) (b .args .k) (portOf (b .args .p)) (c .let-out .result)
+    Passing (f b) (b .args .targets .now) (b .args .next) (b .args .sets .now) (b .args .list .now) (b .args .n) (b .args .k) (portOf (b .args .p)) (c .let-out .result)
 passing c =
     let b = c .before .before .before .before .before .before .before .before .before .before in
     let s = b .args .sets .now in
@@ -62,7 +62,7 @@ passing c =
       ends = b .pre .0 .0 .ends;
       order = b .pre .0 .0 .order;
       accepted = b .pre .0 .0 .facts;
-      headed = b .pre .0 .1;
+      targeted = b .pre .0 .1;
       spreading = b .pre .0 .2;
       turn = b .pre .1 .0;
       within = b .pre .1 .1;

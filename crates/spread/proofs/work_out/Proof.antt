@@ -10,19 +10,19 @@ use Rattle.spread.proofs.work_out.Statement.{statement}
 use Rattle.spread.proofs.work_out.Tie as tie
 
 abbrev Inv-loop : tie.InvT-loop
-Inv-loop table size sets₀ heads list₀ n₀ k₀ k-end sets list n k = (k ≤ size .components) × Spreading (netlistOf size table) sets list n × CoveredTo (netlistOf size table) 0 sets list n k
+Inv-loop table size sets₀ targets list₀ n₀ k₀ k-end sets list n k = (k ≤ size .components) × Spreading (netlistOf size table) sets list n × CoveredTo (netlistOf size table) 0 sets list n k
 
 abbrev μ-loop : tie.MeasureT-loop
-μ-loop table size sets₀ heads list₀ n₀ k₀ k-end sets list n k = size .components - k
+μ-loop table size sets₀ targets list₀ n₀ k₀ k-end sets list n k = size .components - k
 
 abbrev Inv-loop2 : tie.InvT-loop2
-Inv-loop2 table size sets₀ heads list₀ n₀ done₀ sets list n done = (done ≤ n) × Spreading (netlistOf size table) sets list n × CoveredTo (netlistOf size table) done sets list n (size .components)
+Inv-loop2 table size sets₀ targets list₀ n₀ done₀ sets list n done = (done ≤ n) × Spreading (netlistOf size table) sets list n × CoveredTo (netlistOf size table) done sets list n (size .components)
 
 abbrev μ-loop2 : tie.MeasureT-loop2
-μ-loop2 table size sets₀ heads list₀ n₀ done₀ sets list n done = mostFlows - done
+μ-loop2 table size sets₀ targets list₀ n₀ done₀ sets list n done = mostFlows - done
 
-note-heads-requires : tie.Need-note-heads-requires Inv-loop μ-loop Inv-loop2 μ-loop2
-note-heads-requires c κs = (c .before .before .pre .0, refl)
+note-targets-requires : tie.Need-note-targets-requires Inv-loop μ-loop Inv-loop2 μ-loop2
+note-targets-requires c κs = (c .before .before .pre .0, refl)
 
 loop-holds : tie.Need-loop-holds Inv-loop μ-loop Inv-loop2 μ-loop2
 loop-holds c = (omega arith, spread-none _ (c .before .before .before .pre .1) refl, cover-none)
@@ -33,7 +33,7 @@ add-pass-on c = omega (arith, c .before .before .before .before .before .before 
 pass-on-requires : tie.Need-pass-on-requires Inv-loop μ-loop Inv-loop2 μ-loop2
 pass-on-requires c κs =
     let l = c .before .before .before .before in
-    ((l .before .before .before .before .pre .0, l .before .note-heads .ensures, l .loop .inv .1), (omega arith, omega (arith, c .before .before .before .loop-test .taken)))
+    ((l .before .before .before .before .pre .0, l .before .note-targets .ensures, l .loop .inv .1), (omega arith, omega (arith, c .before .before .before .loop-test .taken)))
 
 add-k : tie.Need-add-k Inv-loop μ-loop Inv-loop2 μ-loop2
 add-k c = omega (arith, c .before .before .before .before .before .before .before .before .before .pre .0 .facts .fewRows, c .before .before .before .before .loop-test .taken)
@@ -63,7 +63,7 @@ pass-on-requires-2 c κs =
     let l = c .before .before .before .before .before in
     let b = l .before .before .before .before .before .before in
     let w = c .before .before .before in
-    ((b .pre .0, l .before .before .before .note-heads .ensures, l .loop2 .inv .1), (omega (arith, w .wide .ensures .0, l .loop2 .inv .1 .named _ (w .before .loop2-test .taken)), omega arith))
+    ((b .pre .0, l .before .before .before .note-targets .ensures, l .loop2 .inv .1), (omega (arith, w .wide .ensures .0, l .loop2 .inv .1 .named _ (w .before .loop2-test .taken)), omega arith))
 
 add-done : tie.Need-add-done Inv-loop μ-loop Inv-loop2 μ-loop2
 add-done c = omega (arith, list-short (c .before .before .before .before .before .before .before .before .before .before .before .before .pre .0 .facts) (c .before .before .before .before .before .before .loop2 .inv .1), c .before .before .before .before .before .loop2-test .taken)
@@ -90,7 +90,7 @@ work-out-spec =
     μ-loop
     Inv-loop2
     μ-loop2
-    note-heads-requires
+    note-targets-requires
     loop-holds
     add-pass-on
     pass-on-requires

@@ -17,9 +17,9 @@ pub fn time_all(fabric: &Fabric, mut report: impl FnMut(&str, Times)) {
     let file = fabric.to_file();
     let mut sets = vec![0; fabric.channels];
     let mut second_sets = sets.clone();
-    let forwards = || library_reach(&file, &mut sets);
+    let by_library = || library_reach(&file, &mut sets);
     let by_second = || reach(black_box(&file), &mut second_sets).is_ok();
-    report("reach", time_alternately(forwards, by_second));
+    report("reach", time_alternately(by_library, by_second));
     if let Some((terms, proposal)) = left_outside(fabric) {
         let times = time_check(fabric, &file, &proposal);
         report(&format!("check by sets, {terms} terms"), times);

@@ -20,7 +20,7 @@ impl Trial {
     pub fn follow(&mut self, list: &mut List, call: Call, answer: &Answer) {
         match call {
             Call::Check => {
-                let by_sets = list.started && self.leaves_outside(self.parts[GIVEN].bytes());
+                let by_sets = self.leaves_outside(self.parts[GIVEN].bytes());
                 let sum = FollowedSum::new(self.accepted_sum(answer), by_sets);
                 list.sums.push(sum);
             }
@@ -36,7 +36,7 @@ impl Trial {
                 self.blocks.add(&blocks);
                 let accepted = blocks.iter().filter(|block| block.number() == 0);
                 for block in accepted {
-                    let by_sets = list.started && self.leaves_outside(&block.terms);
+                    let by_sets = self.leaves_outside(&block.terms);
                     let sum = FollowedSum::new(block.sum(), by_sets);
                     list.block_sums.push(sum);
                 }

@@ -66,7 +66,10 @@ impl Followed {
                 "moves inside runs where a set is not full",
                 self.moves_inside_runs.where_not_full,
             ),
-            ("fabrics in which a set is not full", self.some_not_full),
+            (
+                "lists with steps on a fabric in which a set is not full",
+                self.some_not_full,
+            ),
         ];
         let seldom = wanted.into_iter().filter(|&(_, count)| count < least);
         seldom.collect()

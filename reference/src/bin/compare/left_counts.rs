@@ -43,7 +43,10 @@ impl ByPlace {
             ("accepted with flows left outside the sets", self.outside),
             ("refused with all of them inside", self.inside),
             ("refused with the lowest outside", self.lowest_outside),
-            ("refused with another one outside", self.lowest_inside),
+            (
+                "refused with the lowest inside and another outside",
+                self.lowest_inside,
+            ),
         ]
     }
 }

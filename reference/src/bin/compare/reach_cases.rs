@@ -4,7 +4,9 @@ use reference::blocks::write_blocks;
 use reference::check::weights_length;
 use reference::check_many::result_length;
 use reference::component::{Component, Kind};
-use reference::samples::{credit_loop, fork_into_join, queue, queue_row, sink, source, switch_row};
+use reference::samples::{
+    self, credit_loop, emits, fork_into_join, queue, queue_row, sink, source, switch_row,
+};
 use reference::terms::{write_proposal, Term};
 use reference::Fabric;
 
@@ -70,10 +72,6 @@ fn fabric(colours: usize, channels: usize, components: Vec<Component>) -> Fabric
         channels,
         components,
     }
-}
-
-fn emits(mask: u8, a: u8) -> Component {
-    Component { mask, ..source(a) }
 }
 
 /// Each with its sets.
@@ -194,7 +192,6 @@ fn colour_0_alone() -> Case {
         queue: 1,
         colour: 1,
     };
-    let components = vec![source(0), queue(0, 1, 1, 0), sink(1)];
     let calls = vec![
         check(3, &outside, listing("Q 1 1 7\nSUM 0\n")),
         check(3, &inside, Expected::NumberAndPlace(13, 0)),
@@ -203,13 +200,14 @@ fn colour_0_alone() -> Case {
         LentCall::plain(ceiling, &write_proposal(&outside), 0, Expected::Ceiling(0)),
         LentCall::plain(Call::CheckMany, &write_blocks(&blocks), space, texts),
     ];
-    case(&fabric(2, 2, components), calls)
+    case(&samples::colour_0_alone(), calls)
 }
 
 /// The same with a source of colour 1: the lowest flow that is left is outside the sets, the next one
 /// is not.
 fn colour_1_alone() -> Case {
-    let components = vec![emits(0x40, 0), queue(0, 1, 1, 0), sink(1)];
+    let mut fabric = samples::colour_0_alone();
+    fabric.components[0] = emits(0x40, 0);
     let calls = vec![
         check(3, &[term(1, 0, 7)], listing("Q 1 0 7\nSUM 0\n")),
         check(
@@ -218,7 +216,7 @@ fn colour_1_alone() -> Case {
             Expected::NumberAndPlace(13, 1),
         ),
     ];
-    case(&fabric(2, 2, components), calls)
+    case(&fabric, calls)
 }
 
 /// The queue stands behind the merge that it leads back to. Nothing ever moves on channel 1: the merge

@@ -1,7 +1,7 @@
 //! Files whose text is known: the document's case, the panels' sums, and others at the bounds.
 
 use reference::panels::panels;
-use reference::samples::{credit_loop, credit_terms, looped_queues, queue, sink, source};
+use reference::samples::{colour_0_alone, credit_loop, credit_terms, looped_queues};
 use reference::terms::{write_proposal, Term, MOST_TERMS, MULTIPLIER_BOUND};
 use reference::Fabric;
 
@@ -56,11 +56,7 @@ fn credit_loop_files() -> Vec<Case> {
 
 /// A source of colour 0, a queue and a sink: colour 1 never comes, and its flows are outside the sets.
 fn left_files() -> Vec<Case> {
-    let fabric = Fabric {
-        colours: 2,
-        channels: 2,
-        components: vec![source(0), queue(0, 1, 1, 0), sink(1)],
-    };
+    let fabric = colour_0_alone();
     let of_queue = |index, multiplier| Term {
         component: 1,
         index,

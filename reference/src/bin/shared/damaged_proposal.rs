@@ -1,4 +1,4 @@
-//! Random proposals: such that all flows cancel, near misses of them, and others.
+//! Random proposals: such as are not refused for a flow, near misses of them, and others.
 
 use reference::random::Random;
 use reference::random_proposal::Equations;

@@ -16,7 +16,7 @@ use Rattle.component.proofs.ByKind.{by-number}
 use Rattle.netlist.specs.Netlist.{Netlist, rowOf}
 use Rattle.netlist.specs.Accepted.{AcceptedNetlist}
 use Rattle.netlist.proofs.Ends.{one-taker}
-use Rattle.spread.specs.Spread.{Outputs, Heads}
+use Rattle.spread.specs.Spread.{Outputs, Targets}
 
 -- false is not true, and 7 is the only number from 7 to 7
 no : {X : Type 0} → false ≡ true → X
@@ -91,7 +91,7 @@ set-keeps l i j v h e = by-test (eqb i j) refl
     by-test true q = subst (λ (y : ℕ). getD (set l y v) i 0 ≡ v) (eqb-true i j q) (getD-set-same l i v 0 h)
     by-test false q = getD-set-other l j i v 0 (eqb-false i j q) ∙ e
 
-module _ (f : Netlist) (a : AcceptedNetlist f) (k : ℕ) (low : k < f .components) (heads : List ℕ) (h : Heads f k heads) where
+module _ (f : Netlist) (a : AcceptedNetlist f) (k : ℕ) (low : k < f .components) (targets : List ℕ) (h : Targets f k targets) where
   abbrev x : Port → ℕ
   x p = port (rowOf f k) p
 
@@ -99,65 +99,65 @@ module _ (f : Netlist) (a : AcceptedNetlist f) (k : ℕ) (low : k < f .component
   In p = isInput (portUse (kind (rowOf f k)) p) ≡ true
 
   -- component k stands at its input channels, and nothing else has changed
-  noted : (heads′ : List ℕ) → length heads′ ≡ 256 → ((p : Port) → In p → getD heads′ (x p) 0 ≡ k) → ((y : ℕ) → ((p : Port) → In p → y ≡ x p → ⊥) → getD heads′ y 0 ≡ getD heads y 0)
-      → Heads f (k + 1) heads′
-  noted heads′ l own other = record { long = l; at = below-more (λ j. (p : Port) → isInput (portUse (kind (rowOf f j)) p) ≡ true → getD heads′ (port (rowOf f j) p) 0 ≡ j) k before own }
+  noted : (targets′ : List ℕ) → length targets′ ≡ 256 → ((p : Port) → In p → getD targets′ (x p) 0 ≡ k) → ((y : ℕ) → ((p : Port) → In p → y ≡ x p → ⊥) → getD targets′ y 0 ≡ getD targets y 0)
+      → Targets f (k + 1) targets′
+  noted targets′ l own other = record { long = l; at = below-more (λ j. (p : Port) → isInput (portUse (kind (rowOf f j)) p) ≡ true → getD targets′ (port (rowOf f j) p) 0 ≡ j) k before own }
     where
-      before : (j : ℕ) → j < k → (p : Port) → isInput (portUse (kind (rowOf f j)) p) ≡ true → getD heads′ (port (rowOf f j) p) 0 ≡ j
+      before : (j : ℕ) → j < k → (p : Port) → isInput (portUse (kind (rowOf f j)) p) ≡ true → getD targets′ (port (rowOf f j) p) 0 ≡ j
       before j m p i =
           other (port (rowOf f j) p) (λ q o e. absurd (omega (arith, one-taker f (a .ends) (a .order) (a .facts) j (omega arith) p i k low q o e)))
           ∙ h .at j m p i
 
-  inside : (p : Port) → x p < length heads
+  inside : (p : Port) → x p < length targets
   inside p = omega (arith, h .long, a .facts .rows k low .ports p, a .facts .fewChannels)
 
   ins : {n : ℕ} → n ≡ kindNumber (rowOf f k) → Inputs (kind (rowOf f k)) (not (eqb n 0)) (eqb n 5 || eqb n 7)
   ins e = subst (λ (n : ℕ). Inputs (kind (rowOf f k)) (not (eqb n 0)) (eqb n 5 || eqb n 7)) (sym e) (inputs (kindNumber (rowOf f k)) (a .facts .rows k low .kinds))
 
   -- it takes from no channel, from that at A, from those at A and B
-  none : Inputs (kind (rowOf f k)) false false → Heads f (k + 1) heads
-  none i = noted heads (h .long) own (λ y o. refl)
+  none : Inputs (kind (rowOf f k)) false false → Targets f (k + 1) targets
+  none i = noted targets (h .long) own (λ y o. refl)
     where
-      own : (p : Port) → In p → getD heads (x p) 0 ≡ k
+      own : (p : Port) → In p → getD targets (x p) 0 ≡ k
       own A e = no (sym (i .first) ∙ e)
       own B e = no (sym (i .second) ∙ e)
       own C e = no (sym (i .third) ∙ e)
 
   abbrev atA : List ℕ
-  atA = set heads (x A) k
+  atA = set targets (x A) k
 
-  one : Inputs (kind (rowOf f k)) true false → Heads f (k + 1) atA
-  one i = noted atA (length-set heads (x A) k ∙ h .long) own (λ y o. getD-set-other heads (x A) y k 0 (o A (i .first)))
+  one : Inputs (kind (rowOf f k)) true false → Targets f (k + 1) atA
+  one i = noted atA (length-set targets (x A) k ∙ h .long) own (λ y o. getD-set-other targets (x A) y k 0 (o A (i .first)))
     where
       own : (p : Port) → In p → getD atA (x p) 0 ≡ k
-      own A e = getD-set-same heads (x A) k 0 (inside A)
+      own A e = getD-set-same targets (x A) k 0 (inside A)
       own B e = no (sym (i .second) ∙ e)
       own C e = no (sym (i .third) ∙ e)
 
-  two : Inputs (kind (rowOf f k)) true true → Heads f (k + 1) (set atA (x B) k)
+  two : Inputs (kind (rowOf f k)) true true → Targets f (k + 1) (set atA (x B) k)
   two i =
-      noted (set atA (x B) k) (length-set atA (x B) k ∙ length-set heads (x A) k ∙ h .long) own
-      (λ y o. getD-set-other atA (x B) y k 0 (o B (i .second)) ∙ getD-set-other heads (x A) y k 0 (o A (i .first)))
+      noted (set atA (x B) k) (length-set atA (x B) k ∙ length-set targets (x A) k ∙ h .long) own
+      (λ y o. getD-set-other atA (x B) y k 0 (o B (i .second)) ∙ getD-set-other targets (x A) y k 0 (o A (i .first)))
     where
       own : (p : Port) → In p → getD (set atA (x B) k) (x p) 0 ≡ k
-      own A e = set-keeps atA (x A) (x B) k (lt-length-set heads (x A) k (inside A)) (getD-set-same heads (x A) k 0 (inside A))
-      own B e = getD-set-same atA (x B) k 0 (lt-length-set heads (x A) k (inside B))
+      own A e = set-keeps atA (x A) (x B) k (lt-length-set targets (x A) k (inside A)) (getD-set-same targets (x A) k 0 (inside A))
+      own B e = getD-set-same atA (x B) k 0 (lt-length-set targets (x A) k (inside B))
       own C e = no (sym (i .third) ∙ e)
 
   -- by the number that was read, and the ports that were read
   module _ {n : ℕ} (e : n ≡ kindNumber (rowOf f k)) where
-    pub note-none : n ≡ 0 → Heads f (k + 1) heads
+    pub note-none : n ≡ 0 → Targets f (k + 1) targets
     note-none z = none (ins {n = 0} (sym z ∙ e))
 
     later : {b : Bool} → (n ≡ 0 → ⊥) → (eqb n 5 || eqb n 7) ≡ b → Inputs (kind (rowOf f k)) true b
     later z t = rw (← t, ← ap not (ne-eqb n 0 z)) (ins e)
 
-    pub note-one : (n ≡ 0 → ⊥) → (eqb n 5 || eqb n 7) ≡ false → {u : ℕ} → u ≡ x A → Heads f (k + 1) (set heads u k)
+    pub note-one : (n ≡ 0 → ⊥) → (eqb n 5 || eqb n 7) ≡ false → {u : ℕ} → u ≡ x A → Targets f (k + 1) (set targets u k)
     note-one z t q = rw q (one (later z t))
 
-    pub note-two : (n ≡ 0 → ⊥) → (eqb n 5 || eqb n 7) ≡ true → {u v : ℕ} → u ≡ x A → v ≡ x B → Heads f (k + 1) (set (set heads u k) v k)
+    pub note-two : (n ≡ 0 → ⊥) → (eqb n 5 || eqb n 7) ≡ true → {u v : ℕ} → u ≡ x A → v ≡ x B → Targets f (k + 1) (set (set targets u k) v k)
     note-two z t q r = rw (q, r) (two (later z t))
 
 -- before the first component
-pub heads-none : (f : Netlist) {heads : List ℕ} → heads ≡ replicate 256 0 → Heads f 0 heads
-heads-none f {heads} e = record { long = ap length e ∙ length-replicate {A = ℕ} 256 0; at = below-none (λ k. (p : Port) → isInput (portUse (kind (rowOf f k)) p) ≡ true → getD heads (port (rowOf f k) p) 0 ≡ k) }
+pub targets-none : (f : Netlist) {targets : List ℕ} → targets ≡ replicate 256 0 → Targets f 0 targets
+targets-none f {targets} e = record { long = ap length e ∙ length-replicate {A = ℕ} 256 0; at = below-none (λ k. (p : Port) → isInput (portUse (kind (rowOf f k)) p) ≡ true → getD targets (port (rowOf f k) p) 0 ≡ k) }
