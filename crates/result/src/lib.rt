@@ -17,7 +17,7 @@ use refusals::Verdict;
 // How many entries a block's result has.
 pub fn result_size(size: Size) -> usize
     requires { size.components ≤ most_components }
-    ensures* { λ r. ⌜ r ≡ 3 + 8 * size.components ⌝ }
+    ensures { result ≡ 3 + 8 * size.components }
 {
     3 + 8 * size.components
 }
@@ -25,7 +25,7 @@ pub fn result_size(size: Size) -> usize
 // The first n entries are 0.
 fn clear_entries(out: &mut [i64], n: usize)
     requires { n ≤ length out.old }
-    ensures* { λ _. ⌜ out.new ≡ up_to n (λ u. pos 0) ++ drop n out.old ⌝ }
+    ensures { out.new ≡ up_to n (λ u. pos 0) ++ drop n out.old }
 {
     for u in 0..n {
         out[u] = 0;
@@ -35,7 +35,7 @@ fn clear_entries(out: &mut [i64], n: usize)
 // The first n bytes are 0.
 fn clear_bytes(out: &mut [u8], n: usize)
     requires { n ≤ length out.old }
-    ensures* { λ _. ⌜ out.new ≡ up_to n (λ j. 0) ++ drop n out.old ⌝ }
+    ensures { out.new ≡ up_to n (λ j. 0) ++ drop n out.old }
 {
     for j in 0..n {
         out[j] = 0;
@@ -47,9 +47,9 @@ fn weigh_entries(table: &[u8], size: Size, sets: &[u8], block: &[u8], out: &mut 
     requires accepted_netlist { AcceptedNetlist (netlist_of size table.now) }
     requires known { Known (netlist_of size table.now) sets.now }
     requires components_in_bounds { 8 * size.components ≤ length out.old }
-    ensures* { λ r. ⌜ (r.verdict ≡ judged (netlist_of size table.now) block.now)
-        × (r.constant ≡ constant_by (judged (netlist_of size table.now) block.now) (netlist_of size table.now) block.now)
-        × (out.new ≡ up_to (8 * size.components) (entry_by (judged (netlist_of size table.now) block.now) (netlist_of size table.now) block.now) ++ drop (8 * size.components) out.old) ⌝ }
+    ensures { (result.verdict ≡ judged (netlist_of size table.now) block.now)
+        × (result.constant ≡ constant_by (judged (netlist_of size table.now) block.now) (netlist_of size table.now) block.now)
+        × (out.new ≡ up_to (8 * size.components) (entry_by (judged (netlist_of size table.now) block.now) (netlist_of size table.now) block.now) ++ drop (8 * size.components) out.old) }
 {
     let j = judgement::judge(table, size, sets, block, &mut *out);
     let found = j.verdict;
@@ -67,9 +67,9 @@ fn weigh_bytes(table: &[u8], size: Size, sets: &[u8], block: &[u8], out: &mut [u
     requires accepted_netlist { AcceptedNetlist (netlist_of size table.now) }
     requires known { Known (netlist_of size table.now) sets.now }
     requires components_in_bounds { 8 * (8 * size.components) ≤ length out.old }
-    ensures* { λ r. ⌜ (r.verdict ≡ judged (netlist_of size table.now) block.now)
-        × (r.constant ≡ constant_by (judged (netlist_of size table.now) block.now) (netlist_of size table.now) block.now)
-        × (out.new ≡ up_to (8 * (8 * size.components)) (weight_byte (entry_by (judged (netlist_of size table.now) block.now) (netlist_of size table.now) block.now)) ++ drop (8 * (8 * size.components)) out.old) ⌝ }
+    ensures { (result.verdict ≡ judged (netlist_of size table.now) block.now)
+        × (result.constant ≡ constant_by (judged (netlist_of size table.now) block.now) (netlist_of size table.now) block.now)
+        × (out.new ≡ up_to (8 * (8 * size.components)) (weight_byte (entry_by (judged (netlist_of size table.now) block.now) (netlist_of size table.now) block.now)) ++ drop (8 * (8 * size.components)) out.old) }
 {
     let j = judgement::judge_bytes(table, size, sets, block, MOST_ENTRIES, &mut *out);
     let found = j.verdict;
@@ -87,7 +87,7 @@ pub fn put_entries(table: &[u8], size: Size, sets: &[u8], block: &[u8], out: &mu
     requires accepted_netlist { AcceptedNetlist (netlist_of size table.now) }
     requires known { Known (netlist_of size table.now) sets.now }
     requires block_len_bound { (length block.now ≤ 4 * most_terms) × (result_size (netlist_of size table.now) ≤ length out.old) }
-    ensures* { λ _. ⌜ out.new ≡ over (block_result (netlist_of size table.now) block.now) out.old ⌝ }
+    ensures { out.new ≡ over (block_result (netlist_of size table.now) block.now) out.old }
 {
     let first: usize = 3;
     let j = weigh_entries(table, size, sets, block, &mut out[first..]);
@@ -105,7 +105,7 @@ pub fn put_bytes(table: &[u8], size: Size, sets: &[u8], block: &[u8], out: &mut 
     requires accepted_netlist { AcceptedNetlist (netlist_of size table.now) }
     requires known { Known (netlist_of size table.now) sets.now }
     requires block_len_bound { (length block.now ≤ 4 * most_terms) × (8 * result_size (netlist_of size table.now) ≤ length out.old) }
-    ensures* { λ _. ⌜ out.new ≡ over (result_bytes (netlist_of size table.now) block.now) out.old ⌝ }
+    ensures { out.new ≡ over (result_bytes (netlist_of size table.now) block.now) out.old }
 {
     let first: usize = 24;
     let j = weigh_bytes(table, size, sets, block, &mut out[first..]);

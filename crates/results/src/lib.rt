@@ -12,7 +12,7 @@ use spread::SETS_SIZE;
 pub fn write_results(table: &[u8], size: Size, file: &[u8], n: usize, out: &mut [i64])
     requires accepted_netlist { AcceptedNetlist (netlist_of size table.now) }
     requires fills { Fills file.now n × (length (each_block (block_result (netlist_of size table.now)) file.now n) ≤ length out.old) }
-    ensures* { λ _. ⌜ out.new ≡ over (each_block (block_result (netlist_of size table.now)) file.now n) out.old ⌝ }
+    ensures { out.new ≡ over (each_block (block_result (netlist_of size table.now)) file.now n) out.old }
 {
     let mut sets = [0u8; SETS_SIZE];
     spread::work_out(table, size, &mut sets);
@@ -32,7 +32,7 @@ pub fn write_results(table: &[u8], size: Size, file: &[u8], n: usize, out: &mut 
 pub fn write_results_bytes(table: &[u8], size: Size, file: &[u8], n: usize, out: &mut [u8])
     requires accepted_netlist { AcceptedNetlist (netlist_of size table.now) }
     requires fills { Fills file.now n × (length (each_block (result_bytes (netlist_of size table.now)) file.now n) ≤ length out.old) }
-    ensures* { λ _. ⌜ out.new ≡ over (each_block (result_bytes (netlist_of size table.now)) file.now n) out.old ⌝ }
+    ensures { out.new ≡ over (each_block (result_bytes (netlist_of size table.now)) file.now n) out.old }
 {
     let mut sets = [0u8; SETS_SIZE];
     spread::work_out(table, size, &mut sets);
