@@ -28,8 +28,8 @@ fn below_zero(v: i64) -> usize
 
 // One queue's weights below 0, each times its capacity.
 fn owed_by(w: &[i64; MOST_ENTRIES], q: usize, colours: usize, capacity: usize) -> usize
-    requires q_lt_most_components { (q < most_components) × (colours ≤ most_colours) × (capacity < 256) }
-    requires near_2 { Near most_entries (2 ^ 40) w.now }
+    requires in_table { (q < most_components) × (colours ≤ most_colours) × (capacity < 256) }
+    requires weights_near { Near most_entries (2 ^ 40) w.now }
     ensures value { result ≡ total colours (λ d. below_zero (get_or w.now (8 * q + d) (pos 0)) * capacity) }
     ensures near { result ≤ 2 ^ 51 }
 {
@@ -43,7 +43,7 @@ fn owed_by(w: &[i64; MOST_ENTRIES], q: usize, colours: usize, capacity: usize) -
 // Those of all queues.
 pub fn owed_by_all(w: &[i64; MOST_ENTRIES], table: &[u8], size: Size) -> usize
     requires accepted_netlist { AcceptedNetlist (netlist_of size table.now) }
-    requires near_2 { Near most_entries (2 ^ 40) w.now }
+    requires weights_near { Near most_entries (2 ^ 40) w.now }
     ensures value { result ≡ owed_of (netlist_of size table.now) (λ q d. get_or w.now (8 * q + d) (pos 0)) }
     ensures near { result ≤ 2 ^ 58 }
 {

@@ -1,1 +1,2 @@
 // Laws of the integers and of finite sums; there is no code here.
+#![tactic(auto)]

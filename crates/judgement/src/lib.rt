@@ -28,8 +28,8 @@ use sums::MOST_TERMS;
 
 // One component's share of the constant.
 fn share(w: &[i64; MOST_ENTRIES], table: &[u8], q: usize) -> i64
-    requires q_lt_most_components { (q < most_components) × (row_size * q + row_size ≤ length table.now) × (fill_colour (row table.now q) < 8) }
-    requires near_2 { Near most_entries (2 ^ 40) w.now }
+    requires in_table { (q < most_components) × (row_size * q + row_size ≤ length table.now) × (fill_colour (row table.now q) < 8) }
+    requires weights_near { Near most_entries (2 ^ 40) w.now }
     ensures value { result ≡ share_of table.now w.now q }
     ensures near { nat_abs result ≤ 2 ^ 48 }
 {
@@ -44,7 +44,7 @@ fn share(w: &[i64; MOST_ENTRIES], table: &[u8], q: usize) -> i64
 // The constant K.
 fn constant_of(w: &[i64; MOST_ENTRIES], table: &[u8], size: Size) -> i64
     requires accepted_netlist { AcceptedNetlist (netlist_of size table.now) }
-    requires near { Near most_entries (2 ^ 40) w.now }
+    requires weights_near { Near most_entries (2 ^ 40) w.now }
     ensures { result ≡ sum_to size.components (share_of table.now w.now) }
 {
     let mut k: i64 = 0;
@@ -80,7 +80,7 @@ fn judge_sums(
 ) -> Judgement
     requires accepted_netlist { AcceptedNetlist (netlist_of size table.now) }
     requires known { Known (netlist_of size table.now) sets.now }
-    requires s_len { (length s.now ≡ most_flows) × Near most_entries (2 ^ 40) w.now }
+    requires sums { (length s.now ≡ most_flows) × Near most_entries (2 ^ 40) w.now }
     ensures { (result.verdict ≡ sums_verdict (netlist_of size table.now) s.now w.now)
         × (result.constant ≡ or_zero (sums_verdict (netlist_of size table.now) s.now w.now) (sum_to size.components (share_of table.now w.now))) }
 {
@@ -116,7 +116,7 @@ fn weigh(
 ) -> Judgement
     requires accepted_netlist { AcceptedNetlist (netlist_of size table.now) }
     requires known { Known (netlist_of size table.now) sets.now }
-    requires summed { Summed most_entries (λ u. pos 0) w.old }
+    requires weights_empty { Summed most_entries (λ u. pos 0) w.old }
     ensures verdict { (result.verdict ≡ judged (netlist_of size table.now) proposal.now)
         × (result.constant ≡ constant_by (judged (netlist_of size table.now) proposal.now) (netlist_of size table.now) proposal.now) }
     ensures weights { judged (netlist_of size table.now) proposal.now ≡ Accepted → Weighed (netlist_of size table.now) proposal.now w.new }
@@ -193,8 +193,8 @@ fn unasked(j: Judgement) -> Weighing
 
 fn asked(j: Judgement, w: &[i64; MOST_ENTRIES], table: &[u8], size: Size, u: usize) -> Weighing
     requires accepted_netlist { AcceptedNetlist (netlist_of size table.now) }
-    requires near_2 { Near most_entries (2 ^ 40) w.now × (u < most_entries) }
-    ensures verdict_value { (result.judgement.verdict ≡ j.verdict) × (result.judgement.constant ≡ j.constant)
+    requires weights_near { Near most_entries (2 ^ 40) w.now × (u < most_entries) }
+    ensures answer { (result.judgement.verdict ≡ j.verdict) × (result.judgement.constant ≡ j.constant)
         × (result.weight ≡ above_zero (get_or w.now u (pos 0)))
         × (result.owed ≡ cond (eqb result.weight 0) 0 (owed_of (netlist_of size table.now) (λ q d. get_or w.now (8 * q + d) (pos 0)))) }
     ensures near { result.owed ≤ 2 ^ 58 }
@@ -223,7 +223,7 @@ pub fn judge_entry(
 ) -> Weighing
     requires accepted_netlist { AcceptedNetlist (netlist_of size table.now) }
     requires known { Known (netlist_of size table.now) sets.now }
-    ensures verdict_value { (result.judgement.verdict ≡ judged_within (netlist_of size table.now) proposal.now space)
+    ensures answer { (result.judgement.verdict ≡ judged_within (netlist_of size table.now) proposal.now space)
         × (result.judgement.constant ≡ constant_by (judged_within (netlist_of size table.now) proposal.now space) (netlist_of size table.now) proposal.now)
         × (out.new ≡ bytes_unasked u (judged_within (netlist_of size table.now) proposal.now space) (netlist_of size table.now) proposal.now out.old)
         × (result.weight ≡ weight_by (judged_within (netlist_of size table.now) proposal.now space) (netlist_of size table.now) proposal.now u)

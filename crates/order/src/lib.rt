@@ -1,5 +1,7 @@
 // A depth-first walk that puts signals into an order in which each stands after all that it depends on, or finds a circle.
 // The graph is a lent table: signal s depends on the entries 4s to 4s + 3 that are below n; any other entry means none.
+#![tactic(auto)]
+
 ghost use Rattle.std.specs.Prelude.{◌≡◌, ◌+◌, ◌*◌, ◌≤◌, ◌<◌, length, set};
 ghost use Rattle.order.specs.Graph.{dep, OrderOf, most_signals};
 ghost use Rattle.order.specs.Places.{SoundPlaces, Fresh, IsVisited, IsOrdered};
@@ -8,7 +10,7 @@ ghost use Rattle.order.specs.Places.{SoundPlaces, Fresh, IsVisited, IsOrdered};
 pub const MOST_SIGNALS: usize = 510;
 
 // What a visit finds: a circle, or how many signals the order now has.
-#[derive(Drop)]
+#[derive(Clone, Copy)]
 enum Walk {
     Circle,
     Extended(u16),

@@ -63,8 +63,8 @@ fn narrow(n: usize) -> u16
 
 // The six numbers of signal s, which end e gives.
 fn put_place(plan: &mut [u16], at: usize, table: &[u8], s: usize, e: usize)
-    requires at_in_bounds { (at + 6 ≤ length plan.old) × (at < 4096) × (s < 512) }
-    requires e_bound { (e / 3 < most_components) × (row_size * (e / 3) + row_size ≤ length table.now) × (kind_number (row table.now (e / 3)) ≤ 7) }
+    requires in_plan { (at + 6 ≤ length plan.old) × (at < 4096) × (s < 512) }
+    requires in_table { (e / 3 < most_components) × (row_size * (e / 3) + row_size ≤ length table.now) × (kind_number (row table.now (e / 3)) ≤ 7) }
     ensures { plan.new ≡ placed plan.old at (field_at (row table.now (e / 3)) s e) }
 {
     let k = e / 3;
@@ -86,7 +86,7 @@ pub fn lay_out(
     plan: &mut [u16],
 )
     requires accepted_fabric { AcceptedFabric (netlist_of size table.now) ends.now order.now }
-    requires channels_in_bounds { 12 * size.channels ≤ length plan.old }
+    requires room { 12 * size.channels ≤ length plan.old }
     ensures { plan.new ≡
         up_to (12 * size.channels) (planned (netlist_of size table.now) order.now)
         ++ drop (12 * size.channels) plan.old }

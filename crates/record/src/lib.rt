@@ -1,4 +1,6 @@
 // A component's record: 13 bytes, and its row of the open table, 24 bytes.
+#![tactic(auto)]
+
 ghost use Rattle.std.specs.Prelude.{◌≡◌, ◌+◌, ◌*◌, ◌≤◌, [], ◌∷◌, ◌++◌, not, length, drop, replicate, eqb};
 ghost use Rattle.digits.specs.Packed.{joined, fields, bytes};
 ghost use Rattle.record.specs.Record.{upper_widths, lower_widths, record_row, record_pad, record_bytes};

@@ -1,10 +1,12 @@
 // Why a call is refused, of all calls of the product, and what that is in numbers.
+#![tactic(auto)]
+
 ghost use Rattle.std.specs.Prelude.{◌≡◌};
 ghost use Rattle.refusals.specs.Refusals.{refusal_number, refusal_place, number_of, place_of};
 ghost use Rattle.refusals.specs.Room.{room_for};
 
 // Why a call is refused, of all calls of the product.
-#[derive(Drop)]
+#[derive(Clone, Copy)]
 pub enum Refusal {
     FileShort,
     WrongEdition,
@@ -29,7 +31,7 @@ pub enum Refusal {
 }
 
 // What a call comes to.
-#[derive(Drop)]
+#[derive(Clone, Copy)]
 pub enum Verdict {
     Accepted,
     Refused(Refusal),

@@ -46,7 +46,7 @@ fn clear_bytes(out: &mut [u8], n: usize)
 fn weigh_entries(table: &[u8], size: Size, sets: &[u8], block: &[u8], out: &mut [i64]) -> Judgement
     requires accepted_netlist { AcceptedNetlist (netlist_of size table.now) }
     requires known { Known (netlist_of size table.now) sets.now }
-    requires components_in_bounds { 8 * size.components ≤ length out.old }
+    requires room { 8 * size.components ≤ length out.old }
     ensures { (result.verdict ≡ judged (netlist_of size table.now) block.now)
         × (result.constant ≡ constant_by (judged (netlist_of size table.now) block.now) (netlist_of size table.now) block.now)
         × (out.new ≡ up_to (8 * size.components) (entry_by (judged (netlist_of size table.now) block.now) (netlist_of size table.now) block.now) ++ drop (8 * size.components) out.old) }
@@ -66,7 +66,7 @@ fn weigh_entries(table: &[u8], size: Size, sets: &[u8], block: &[u8], out: &mut 
 fn weigh_bytes(table: &[u8], size: Size, sets: &[u8], block: &[u8], out: &mut [u8]) -> Judgement
     requires accepted_netlist { AcceptedNetlist (netlist_of size table.now) }
     requires known { Known (netlist_of size table.now) sets.now }
-    requires components_in_bounds { 8 * (8 * size.components) ≤ length out.old }
+    requires room { 8 * (8 * size.components) ≤ length out.old }
     ensures { (result.verdict ≡ judged (netlist_of size table.now) block.now)
         × (result.constant ≡ constant_by (judged (netlist_of size table.now) block.now) (netlist_of size table.now) block.now)
         × (out.new ≡ up_to (8 * (8 * size.components)) (weight_byte (entry_by (judged (netlist_of size table.now) block.now) (netlist_of size table.now) block.now)) ++ drop (8 * (8 * size.components)) out.old) }
@@ -86,7 +86,7 @@ fn weigh_bytes(table: &[u8], size: Size, sets: &[u8], block: &[u8], out: &mut [u
 pub fn put_entries(table: &[u8], size: Size, sets: &[u8], block: &[u8], out: &mut [i64])
     requires accepted_netlist { AcceptedNetlist (netlist_of size table.now) }
     requires known { Known (netlist_of size table.now) sets.now }
-    requires block_len_bound { (length block.now ≤ 4 * most_terms) × (result_size (netlist_of size table.now) ≤ length out.old) }
+    requires room { (length block.now ≤ 4 * most_terms) × (result_size (netlist_of size table.now) ≤ length out.old) }
     ensures { out.new ≡ over (block_result (netlist_of size table.now) block.now) out.old }
 {
     let first: usize = 3;
@@ -104,7 +104,7 @@ pub fn put_entries(table: &[u8], size: Size, sets: &[u8], block: &[u8], out: &mu
 pub fn put_bytes(table: &[u8], size: Size, sets: &[u8], block: &[u8], out: &mut [u8])
     requires accepted_netlist { AcceptedNetlist (netlist_of size table.now) }
     requires known { Known (netlist_of size table.now) sets.now }
-    requires block_len_bound { (length block.now ≤ 4 * most_terms) × (8 * result_size (netlist_of size table.now) ≤ length out.old) }
+    requires room { (length block.now ≤ 4 * most_terms) × (8 * result_size (netlist_of size table.now) ≤ length out.old) }
     ensures { out.new ≡ over (result_bytes (netlist_of size table.now) block.now) out.old }
 {
     let first: usize = 24;

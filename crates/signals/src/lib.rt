@@ -144,7 +144,7 @@ pub fn evaluate(
     signals: &mut [u8],
 )
     requires ready { Ready (netlist_of size table.now) plan.now state.now choices.now }
-    requires channels_in_bounds { 2 * size.channels ≤ length signals.old }
+    requires room { 2 * size.channels ≤ length signals.old }
     ensures { signals.new ≡
         up_to (2 * size.channels) (value (netlist_of size table.now) state.now choices.now)
         ++ drop (2 * size.channels) signals.old }

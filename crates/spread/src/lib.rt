@@ -63,7 +63,7 @@ fn fill_set(table: &[u8], k: usize) -> u8
 // The colours that go out at output port p of component k, where those in a come in at port A and those in b at port B.
 fn let_out(table: &[u8], size: Size, k: usize, p: usize, a: u8, b: u8) -> u8
     requires accepted_netlist { AcceptedNetlist (netlist_of size table.now) × (k < size.components) × (p < 3) }
-    requires p_value { (is_output (port_use (kind (row table.now k)) (port_of p)) ≡ true) × Below size.colours a × Below size.colours b }
+    requires output { (is_output (port_use (kind (row table.now k)) (port_of p)) ≡ true) × Below size.colours a × Below size.colours b }
     ensures { IsSet result (λ d. ltb d size.colours && passed (kind (row table.now k)) (port_of p) size.colours (row table.now k) (has_colour a) (has_colour b) d) }
 {
     let colours = size.colours;
@@ -133,7 +133,7 @@ fn pass_out(
     n: usize,
 ) -> usize
     requires accepted_netlist { AcceptedNetlist (netlist_of size table.now) × Targets (netlist_of size table.now) size.components targets.now × Spreading (netlist_of size table.now) sets.old list.old n }
-    requires k_lt_next { (k < next) × (next ≤ size.components) × (p < 3) × (is_output (port_use (kind (row table.now k)) (port_of p)) ≡ true) }
+    requires turn { (k < next) × (next ≤ size.components) × (p < 3) × (is_output (port_use (kind (row table.now k)) (port_of p)) ≡ true) }
     ensures { PassedOn (netlist_of size table.now) next sets.old list.old n sets.new list.new result (λ q. q ≡ port_of p) k }
 {
     let a = sets[wide(component::port(table, k, 0))];
@@ -169,7 +169,7 @@ fn pass_on(
     n: usize,
 ) -> usize
     requires accepted_netlist { AcceptedNetlist (netlist_of size table.now) × Targets (netlist_of size table.now) size.components targets.now × Spreading (netlist_of size table.now) sets.old list.old n }
-    requires k_lt_next { (k < next) × (next ≤ size.components) }
+    requires turn { (k < next) × (next ≤ size.components) }
     ensures { PassedOn (netlist_of size table.now) next sets.old list.old n sets.new list.new result (λ q. is_output (port_use (kind (row table.now k)) q) ≡ true) k }
 {
     let kind = component::kind(table, k);

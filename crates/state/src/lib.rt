@@ -32,7 +32,7 @@ fn shift(q: &mut [u8])
 // The queue without its front.
 fn drop_front(q: &mut [u8])
     requires queue { Queue q.old }
-    requires nonzero { 0 < length (queue_colours q.old) }
+    requires not_empty { 0 < length (queue_colours q.old) }
     ensures { q.new ≡ cell_with (drop 1 (queue_colours q.old)) }
 {
     let b = q[0];
@@ -44,7 +44,7 @@ fn drop_front(q: &mut [u8])
 // It drops its front if its output moved.
 fn let_out(q: &mut [u8], mb: u8)
     requires queue { Queue q.old }
-    requires nonzero { 0 < mb → 0 < length (queue_colours q.old) }
+    requires not_empty { 0 < mb → 0 < length (queue_colours q.old) }
     ensures { q.new ≡ cell_with (dropped mb (queue_colours q.old)) }
 {
     if 0 < mb {
@@ -75,7 +75,7 @@ fn colour_or(ma: u8, old: u8) -> u8
 // It appends what came in: without a branch, so that it takes the same time either way.
 fn let_in(q: &mut [u8], ma: u8)
     requires queue { Queue q.old }
-    requires ma_len_bound { length (queue_colours q.old) + offered ma ≤ 63 }
+    requires room { length (queue_colours q.old) + offered ma ≤ 63 }
     ensures { q.new ≡ cell_with (appended ma (queue_colours q.old)) }
 {
     let b = q[0] + came_in(ma);

@@ -71,9 +71,9 @@ fn term_at(p: &[u8], k: usize) -> Term
 
 // The sum of flow v grows by m.
 fn add_flow(s: &mut [i64; MOST_FLOWS], v: usize, m: i64)
-    requires v_lt_most_flows { v < most_flows }
+    requires in_sums { v < most_flows }
     requires near { Near most_flows (2 ^ 62) s.old }
-    requires m_bound { nat_abs m ≤ 2 ^ 34 }
+    requires small { nat_abs m ≤ 2 ^ 34 }
     ensures { Grown most_flows s.old m (same v) s.new }
 {
     s[v] += m;
@@ -88,9 +88,9 @@ fn times(hit: bool, m: i64) -> i64
 
 // The sum of flow v grows by m, or by 0: no branch on what a map says.
 fn add_flow_if(s: &mut [i64; MOST_FLOWS], hit: bool, v: usize, m: i64)
-    requires v_lt_most_flows { v < most_flows }
+    requires in_sums { v < most_flows }
     requires near { Near most_flows (2 ^ 62) s.old }
-    requires m_bound { nat_abs m ≤ 2 ^ 34 }
+    requires small { nat_abs m ≤ 2 ^ 34 }
     ensures { Grown most_flows s.old m (λ u. cond hit (same v u) (pos 0)) s.new }
 {
     add_flow(s, v, times(hit, m));
@@ -98,9 +98,9 @@ fn add_flow_if(s: &mut [i64; MOST_FLOWS], hit: bool, v: usize, m: i64)
 
 // The weight of entry u grows by m, if it is a queue's.
 fn add_weight(w: &mut [i64; MOST_ENTRIES], queue: bool, u: usize, m: i64)
-    requires u_lt_most_entries { queue ≡ true → u < most_entries }
+    requires in_weights { queue ≡ true → u < most_entries }
     requires near { Near most_entries (2 ^ 62) w.old }
-    requires m_bound { nat_abs m ≤ 2 ^ 34 }
+    requires small { nat_abs m ≤ 2 ^ 34 }
     ensures { Grown most_entries w.old m (λ v. cond queue (same u v) (pos 0)) w.new }
 {
     if queue {
@@ -119,9 +119,9 @@ fn add_mapped(
     to: usize,
     m: i64,
 )
-    requires colours_le_most_colours { (colours ≤ most_colours) × (from + 8 ≤ most_flows) × (row_size * q + row_size ≤ length table.now) }
+    requires in_table { (colours ≤ most_colours) × (from + 8 ≤ most_flows) × (row_size * q + row_size ≤ length table.now) }
     requires near { Near most_flows (2 ^ 61) s.old }
-    requires m_bound { nat_abs m ≤ 2 ^ 34 }
+    requires small { nat_abs m ≤ 2 ^ 34 }
     ensures { Grown most_flows s.old m (mapped_factor table.now colours from q second to) s.new }
 {
     for d in 0..colours {
@@ -136,9 +136,9 @@ fn add_mapped(
 
 // All flows of a channel, from `from` on.
 fn add_all(s: &mut [i64; MOST_FLOWS], colours: usize, from: usize, m: i64)
-    requires colours_le_most_colours { (colours ≤ most_colours) × (from + 8 ≤ most_flows) }
+    requires in_table { (colours ≤ most_colours) × (from + 8 ≤ most_flows) }
     requires near { Near most_flows (2 ^ 61) s.old }
-    requires m_bound { nat_abs m ≤ 2 ^ 34 }
+    requires small { nat_abs m ≤ 2 ^ 34 }
     ensures { Grown most_flows s.old m (all_factor colours from) s.new }
 {
     for d in 0..colours {
@@ -148,9 +148,9 @@ fn add_all(s: &mut [i64; MOST_FLOWS], colours: usize, from: usize, m: i64)
 
 // The flows of an equation, each times m.
 fn add_equation(s: &mut [i64; MOST_FLOWS], table: &[u8], colours: usize, e: Equation, m: i64)
-    requires colours_le_most_colours { (colours ≤ most_colours) × InTable table.now e }
+    requires in_table { (colours ≤ most_colours) × InTable table.now e }
     requires near { Near most_flows (2 ^ 60) s.old }
-    requires m_bound { nat_abs m ≤ 2 ^ 34 }
+    requires small { nat_abs m ≤ 2 ^ 34 }
     ensures { Grown most_flows s.old m (factor_of table.now colours e) s.new }
 {
     let n = 0 - m;
@@ -193,9 +193,9 @@ fn add_term(
     k: usize,
 ) -> Verdict
     requires accepted_netlist { AcceptedNetlist (netlist_of size table.now) }
-    requires k_in_bounds { 4 * k + 4 ≤ length proposal.now }
-    requires near { Near most_flows (2 ^ 60) s.old }
-    requires near_2 { Near most_entries (2 ^ 60) w.old }
+    requires in_proposal { 4 * k + 4 ≤ length proposal.now }
+    requires sums_near { Near most_flows (2 ^ 60) s.old }
+    requires weights_near { Near most_entries (2 ^ 60) w.old }
     ensures verdict { result ≡ term_verdict (netlist_of size table.now) proposal.now k }
     ensures flows { result ≡ Accepted → Grown most_flows s.old (multiplier proposal.now k) (flow_factor (netlist_of size table.now) proposal.now k) s.new }
     ensures counts { result ≡ Accepted → Grown most_entries w.old (multiplier proposal.now k) (count_factor (netlist_of size table.now) proposal.now k) w.new }
@@ -225,9 +225,9 @@ pub fn add_terms(
     proposal: &[u8],
 ) -> Verdict
     requires accepted_netlist { AcceptedNetlist (netlist_of size table.now) }
-    requires proposal_len_bound { length proposal.now ≤ 4 * most_terms }
-    requires summed { Summed most_flows (λ v. pos 0) s.old }
-    requires summed_2 { Summed most_entries (λ u. pos 0) w.old }
+    requires short { length proposal.now ≤ 4 * most_terms }
+    requires sums_empty { Summed most_flows (λ v. pos 0) s.old }
+    requires weights_empty { Summed most_entries (λ u. pos 0) w.old }
     ensures verdict { result ≡ terms_verdict (netlist_of size table.now) proposal.now }
     ensures sums { result ≡ Accepted → Added (netlist_of size table.now) proposal.now (terms proposal.now) s.new w.new }
 {

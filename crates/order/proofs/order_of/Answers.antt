@@ -1,4 +1,3 @@
--- `order::order_of` meets its contract. The places begin as zeros, so nothing is in the order yet. Assumes nothing.
 use Prim.Native.Nat.{ℕ, zero, suc, ◌*◌, ◌≤◌}
 use mathlib.Core.Path.{◌≡◌, refl, sym, ap, subst, ◌∙◌}
 use mathlib.Core.List.{List, ◌∷◌}
@@ -10,9 +9,9 @@ use lib.Seq.{length-take-le}
 use Rattle.order.specs.Graph.{dep, has_circle, Sorted, OrderOf, most_signals}
 use Rattle.order.specs.Places.{SoundPlaces}
 use Rattle.order.proofs.Places.{good_none}
-use Rattle.order.proofs.order_of.Statement.{statement}
-use Rattle.order.proofs.order_of.Tie as tie
+use Rattle.order.proofs.order_of.Goals as goal
 
+-- `order::order_of` meets its contract. The places begin as zeros, so nothing is in the order yet. Assumes nothing.
 take-replicate : (n m v : ℕ) → n ≤ m → take n (replicate m v) ≡ replicate n v
 take-replicate zero m v h = refl
 take-replicate (suc n) zero v h = absurd (not-suc-le-zero h)
@@ -38,43 +37,5 @@ order-out D n O h r =
     let r' : (has_circle (dep D) n ≡ false) × Sorted (dep D) n O = subst (λ (m : ℕ). (has_circle (dep D) m ≡ false) × Sorted (dep D) m O) (part_length n h) r in
     record { test = sym r'.0; order = λ f. r'.1 }
 
-array-borrow-prefix-place : tie.Need-array-borrow-prefix-place
-array-borrow-prefix-place c = search rules
-
-slice-aggregate-visit-all : tie.Need-slice-aggregate-visit-all
-slice-aggregate-visit-all c = let s = c.before in sym (part_length s.args.n s.requires.0)
-
-visit-all-requires : tie.Need-visit-all-requires
-visit-all-requires c κs =
-    let s = c.before.before in
-    part-good s.args.deps.now s.args.order.now s.args.n s.requires.0 s.requires.1 s.requires.2
-
-enum_told : tie.Need-enum-told
-enum_told c = search rules
-
-enum-known--c : tie.Need-enum-known--c
-enum-known--c c = search rules
-
-returns : tie.Need-returns
-returns c =
-    let r = c.before.before.before in
-    let s = r.before.before.before in
-    circle-out s.args.deps.now s.args.n _ s.requires.0 (rw c.enum_told.given.1 at r.visit-all.ensures)
-
-returns-2 : tie.Need-returns-2
-returns-2 c =
-    let r = c.before.before.before.before in
-    let s = r.before.before.before in
-    order-out s.args.deps.now s.args.n _ s.requires.0 (rw c.before.-c.given.1 at r.visit-all.ensures)
-
-pub order-of-spec : {M : Type 1} → statement M
-order-of-spec =
-    tie.close
-    (tie.spec
-    array-borrow-prefix-place
-    slice-aggregate-visit-all
-    visit-all-requires
-    enum_told
-    enum-known--c
-    returns
-    returns-2)
+pub visit_all-requires : goal.visit_all-requires
+visit_all-requires c = part-good c.args.deps.now c.args.order.now c.args.n c.requires.0 c.requires.1 c.requires.2

@@ -1,0 +1,29 @@
+use Prim.Native.Nat.{ℕ, ◌+◌, ◌-◌, ◌<◌, ◌≤◌}
+use mathlib.Core.Path.{◌≡◌, ◌∙◌}
+use mathlib.Core.Logic.{⊎_elim}
+use mathlib.Core.List.{List}
+use mathlib.Core.Bool.{true, false}
+use native.Mathlib.Omega.{arith}
+use borrow.Author.Rules.{rules}
+use borrow.Author.Count.{below_more}
+use lib.ListN.{length, get_or}
+use Rattle.order.specs.Graph.{dep, walks, has_circle, Sorted}
+use Rattle.order.specs.Places.{SoundPlaces, GrownOrder}
+use Rattle.order.proofs.Graph.{any-has}
+use Rattle.order.proofs.Places.{no-circle, sorted}
+use Rattle.order.proofs.visit_all.Given as goal
+
+-- `order::visit_all` meets its contract. The loop's invariant: the order is good, and has every signal below s.
+-- Assumes nothing.
+-- what holds at the loop's head
+pub record Done (D P₀ P O : List ℕ) (c s : ℕ) : Type 0 where
+  pub good : SoundPlaces D P O c
+  pub long : length P ≡ length P₀
+  pub all : (x : ℕ) → x < s → 0 < get_or P x 0
+  pub few : s ≤ length P
+
+abbrev pub invariant-loop-s : goal.invariant-loop-s
+invariant-loop-s l = Done l.deps l.initial.place l.place l.order l.c l.s
+
+abbrev pub decreases-loop-s : goal.decreases-loop-s
+decreases-loop-s l = length l.initial.place - l.s
