@@ -1,4 +1,6 @@
 // A file laid down piece by piece, its byte sum carried along: header bytes 0 to 2, the records, and last the check byte.
+#![tactic(auto)]
+
 ghost use Rattle.std.specs.Prelude.{◌≡◌, ◌+◌, ◌*◌, ◌≤◌, ◌∷◌, ◌++◌, length, take, drop};
 ghost use Rattle.std.proofs.Math.Seq.{paste};
 ghost use Rattle.digits.specs.Sum.{negated};

@@ -1,4 +1,6 @@
 // The row of a component: its fields by name, and whether they are right.
+#![tactic(auto)]
+
 ghost use Rattle.std.specs.Prelude.{◌≡◌, ◌+◌, ◌*◌, ◌≤◌, ◌<◌, [], ◌∷◌, cond, ◌&&◌, length, get_or, ltb};
 ghost use Rattle.record.specs.Sizes.{row_size};
 ghost use Rattle.record.specs.Table.{row};

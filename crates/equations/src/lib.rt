@@ -1,4 +1,6 @@
 // The equation that a term names by component and index: its flows, or refusal 12.
+#![tactic(auto)]
+
 ghost use Rattle.std.specs.Prelude.{◌≡◌, ◌+◌, ◌*◌, ◌≤◌, ◌<◌, length};
 ghost use Rattle.record.specs.Sizes.{row_size};
 ghost use Rattle.component.specs.Kind.{kind_of};
@@ -11,7 +13,7 @@ use netlist::Size;
 use refusals::{Refusal, Verdict};
 
 // The left side of an equation, each flow L(x,d) by its number 8x + d.
-#[derive(Drop)]
+#[derive(Clone, Copy)]
 pub enum Equation {
     // There is no such equation: refusal 12, with the number of the term that names it.
     Missing(Refusal),

@@ -1,24 +1,26 @@
 // An offer, the two signals of a channel, and what a source, a sink and a merge hold over a step.
+#![tactic(auto)]
+
 ghost use Rattle.std.specs.Prelude.{◌≡◌, suc, ◌≤◌};
 ghost use Rattle.held.specs.Values.{offer_number, bit, when, unless, offered, or_else};
 ghost use Rattle.held.specs.Picks.{picks_b};
 
 // An offer: nothing, or a colour.
-#[derive(Drop)]
+#[derive(Clone, Copy)]
 pub enum Offer {
     Nothing,
     Colour(u8),
 }
 
 // The two signals of a channel.
-#[derive(Drop)]
+#[derive(Clone, Copy)]
 pub struct Channel {
     pub offer: Offer,
     pub take: bool,
 }
 
 // What a source holds over a step.
-#[derive(Drop)]
+#[derive(Clone, Copy)]
 pub struct HeldSource {
     pub held: Offer,
 }
@@ -50,7 +52,7 @@ impl HeldSource {
 }
 
 // What a sink holds over a step.
-#[derive(Drop)]
+#[derive(Clone, Copy)]
 pub struct HeldSink {
     pub held: bool,
 }
@@ -80,7 +82,7 @@ impl HeldSink {
 }
 
 // What a merge holds over a step: its pick, 1 for A and 2 for B, or 0 for none.
-#[derive(Drop)]
+#[derive(Clone, Copy)]
 pub struct HeldMerge {
     pub held: u8,
 }

@@ -1,7 +1,8 @@
 // What the file side, the step side and the sum side stand on.
+#![tactic(auto)]
 
 // The numbers of a fabric's header.
-#[derive(Drop)]
+#[derive(Clone, Copy)]
 pub struct Size {
     pub colours: usize,
     pub channels: usize,

@@ -1,4 +1,6 @@
 // Reader of the packed fabric: refusals 1 to 8, the open table, the ends of the channels and the order of the signals.
+#![tactic(auto)]
+
 ghost use Rattle.std.specs.Prelude.{◌≡◌, ◌+◌, ◌*◌, ◌≤◌, ◌<◌, length, get_or};
 ghost use Rattle.digits.specs.Least.{least};
 ghost use Rattle.digits.specs.Packed.{fields};
@@ -16,7 +18,7 @@ use refusals::{Refusal, Verdict};
 use wiring::ENDS_SIZE;
 
 // What reading a file comes to.
-#[derive(Drop)]
+#[derive(Clone, Copy)]
 pub enum Reading {
     Fabric(Size),
     Rejected(Refusal),

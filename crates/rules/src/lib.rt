@@ -1,4 +1,6 @@
 // The rules of the eight kinds.
+#![tactic(auto)]
+
 ghost use Rattle.std.specs.Prelude.{◌≡◌, List, ℕ, suc, ◌+◌, ◌-◌, ◌*◌, ◌≤◌, ◌<◌, length, get_or, ltb};
 ghost use Rattle.record.specs.Sizes.{row_size};
 ghost use Rattle.record.specs.Table.{row};

@@ -10,8 +10,8 @@ use borrow.Author.Tests.{lt-ltb, eqb-true}
 use Rattle.digits.specs.Least.{some}
 use Rattle.digits.proofs.Bools.{and_both, and-false}
 use Rattle.digits.proofs.Some.{some_at, some_is, none-some}
-use Rattle.component.specs.Kind.{Kind, source, sink, queue, function, fork, join, switch, merge, Port, A, B, C, port_of, port_use, is_output}
-use Rattle.component.specs.Row.{kind, first_map, second_map, map_of, mask, masked, filling, fill_colour, has_colour}
+use Rattle.component.specs.Kind.{Kind, source, sink, queue, function, fork, join, switch, merge, Port, port_of, port_use, is_output}
+use Rattle.component.specs.Row.{first_map, second_map, map_of, mask, masked, filling, fill_colour, has_colour}
 use Rattle.component.specs.Facts.{RowFacts}
 use Rattle.component.proofs.Masks.{some-bit}
 use Rattle.component.proofs.Sets.{has-none, has-and, has-less}

@@ -1,4 +1,6 @@
 // Works out the colours that can reach each channel, by a list of components that have to pass on what came in.
+#![tactic(auto)]
+
 ghost use Rattle.std.specs.Prelude.{◌≡◌, true, cond, ◌&&◌, ◌||◌, ◌+◌, ◌*◌, ◌≤◌, ◌<◌, eqb, ltb, length, get_or, replicate, set};
 ghost use Rattle.record.specs.Table.{row};
 ghost use Rattle.record.specs.Sizes.{row_size};

@@ -1,4 +1,6 @@
 // The channels of a table: the two ends of each, the dependences of their signals, and an order of them or a circle.
+#![tactic(auto)]
+
 ghost use Rattle.std.specs.Prelude.{◌≡◌, suc, ◌+◌, ◌*◌, ◌/◌, ◌≤◌, ◌<◌, not, ◌&&◌, length, get_or, replicate};
 ghost use Rattle.digits.specs.Least.{least};
 ghost use Rattle.order.specs.Graph.{most_signals};
@@ -187,7 +189,7 @@ fn dependences(
 }
 
 // What holds of a table's channels.
-#[derive(Drop)]
+#[derive(Clone, Copy)]
 pub enum Wired {
     Sound,
     Unmatched(usize),

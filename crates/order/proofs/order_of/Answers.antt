@@ -3,7 +3,6 @@ use mathlib.Core.Path.{◌≡◌, refl, sym, ap, subst, ◌∙◌}
 use mathlib.Core.List.{List, ◌∷◌}
 use mathlib.Core.Bool.{true, false, true≢false}
 use native.Mathlib.Nat.{le_of_suc-le-suc, not-suc-le-zero}
-use borrow.Author.Rules.{rules}
 use lib.ListN.{length, take, replicate}
 use lib.Seq.{length-take-le}
 use Rattle.order.specs.Graph.{dep, has_circle, Sorted, OrderOf, most_signals}

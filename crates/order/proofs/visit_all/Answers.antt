@@ -1,14 +1,12 @@
-use Prim.Native.Nat.{ℕ, ◌+◌, ◌-◌, ◌<◌, ◌≤◌}
+use Prim.Native.Nat.{ℕ, ◌+◌, ◌<◌, ◌≤◌}
 use mathlib.Core.Path.{◌≡◌, ◌∙◌}
-use mathlib.Core.Logic.{⊎_elim}
 use mathlib.Core.List.{List}
 use mathlib.Core.Bool.{true, false}
 use native.Mathlib.Omega.{arith}
-use borrow.Author.Rules.{rules}
 use borrow.Author.Count.{below_more}
 use lib.ListN.{length, get_or}
 use Rattle.order.specs.Graph.{dep, walks, has_circle, Sorted}
-use Rattle.order.specs.Places.{SoundPlaces, GrownOrder}
+use Rattle.order.specs.Places.{GrownOrder}
 use Rattle.order.proofs.Graph.{any-has}
 use Rattle.order.proofs.Places.{no-circle, sorted}
 use Rattle.order.proofs.visit_all.Invariants.{Done}

@@ -1,16 +1,8 @@
-use Prim.Native.Nat.{ℕ, ◌+◌, ◌-◌, ◌<◌, ◌≤◌}
-use mathlib.Core.Path.{◌≡◌, ◌∙◌}
-use mathlib.Core.Logic.{⊎_elim}
+use Prim.Native.Nat.{ℕ, ◌-◌, ◌<◌, ◌≤◌}
+use mathlib.Core.Path.{◌≡◌}
 use mathlib.Core.List.{List}
-use mathlib.Core.Bool.{true, false}
-use native.Mathlib.Omega.{arith}
-use borrow.Author.Rules.{rules}
-use borrow.Author.Count.{below_more}
 use lib.ListN.{length, get_or}
-use Rattle.order.specs.Graph.{dep, walks, has_circle, Sorted}
-use Rattle.order.specs.Places.{SoundPlaces, GrownOrder}
-use Rattle.order.proofs.Graph.{any-has}
-use Rattle.order.proofs.Places.{no-circle, sorted}
+use Rattle.order.specs.Places.{SoundPlaces}
 use Rattle.order.proofs.visit_all.Given as goal
 
 -- `order::visit_all` meets its contract. The loop's invariant: the order is good, and has every signal below s.

@@ -1,13 +1,9 @@
-use borrow.Author.Rules.{rules}
-use native.Mathlib.Omega.{arith}
-use mathlib.Core.Path.{◌≡◌, refl, ap, ◌∙◌}
-use mathlib.Core.List.{List, ◌++◌}
-use Prim.Native.Nat.{ℕ, ◌*◌, ◌-◌, ◌≤◌}
+use mathlib.Core.Path.{◌≡◌}
+use mathlib.Core.List.{◌++◌}
+use Prim.Native.Nat.{◌*◌, ◌-◌, ◌≤◌}
 use lib.ListN.{length, drop}
-use lib.Seq.{paste}
 use Rattle.record.specs.Table.{open_table}
 use Rattle.record.specs.Sizes.{row_size}
-use Rattle.record.proofs.Table.{rows_none, rows_more}
 use Rattle.record.proofs.put_rows.Given as goal
 
 abbrev pub invariant-loop-k : goal.invariant-loop-k

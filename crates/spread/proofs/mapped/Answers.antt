@@ -1,0 +1,12 @@
+use mathlib.Core.Path.{◌∙◌}
+use native.Mathlib.Omega.{arith}
+use Rattle.record.specs.Table.{row}
+use Rattle.component.specs.Row.{has_colour, map_of}
+use Rattle.spread.proofs.Sets.{image-more}
+use Rattle.spread.proofs.mapped.Goals as goal
+
+pub loop-d-preserved : goal.loop-d-preserved
+loop-d-preserved c =
+    let l = c.loop-d in
+    let a = c.args in
+    (omega arith, image-more l.d (map_of a.second (row a.table.now a.k)) (has_colour a.set) l.invariant.1 (c.wide.ensures.0 ∙ c.map_of.ensures) c.one_if-made.ensures)

@@ -1,0 +1,12 @@
+use Prim.Native.Nat.{◌-◌, ◌≤◌}
+use Rattle.record.specs.Table.{row}
+use Rattle.component.specs.Row.{has_colour, map_of}
+use Rattle.reach.specs.Rounds.{image}
+use Rattle.spread.specs.Spread.{IsSet}
+use Rattle.spread.proofs.mapped.Given as goal
+
+abbrev pub invariant-loop-d : goal.invariant-loop-d
+invariant-loop-d l = (l.d ≤ l.colours) × IsSet l.made (image l.d (map_of l.second (row l.table l.k)) (has_colour l.set))
+
+abbrev pub decreases-loop-d : goal.decreases-loop-d
+decreases-loop-d l = l.colours - l.d

@@ -1,0 +1,6 @@
+use Rattle.wiring.proofs.Ports.{ports, port-code}
+use Rattle.wiring.proofs.port_code.Goals as goal
+
+pub returns : goal.returns
+unfolding ports
+returns c = port-code c.args.kind c.args.port c.requires.0 c.requires.1
