@@ -8,8 +8,8 @@ STAGED = $(STAGE)/lib/libfabric.a $(STAGE)/include/fabric.h $(STAGE)/lib/pkgconf
 PROGRAM = target/rust/release/panel
 TO = "$(DESTDIR)$(PREFIX)"
 
-# Folders are among them, so that a file that is gone counts too. The edits that must fail are no part of the library.
-CRATES := crates.txt $(shell find crates -name must-fail -prune -o -print)
+# Folders are among them, so that a file that is gone counts too. The edits that must fail are no part of the library, nor is what rt makes.
+CRATES := crates.txt $(shell find crates \( -name must-fail -o -name out \) -prune -o -print)
 PANEL := $(shell find .cargo Cargo.toml Cargo.lock panel reference -type f 2>/dev/null)
 
 .DELETE_ON_ERROR:
@@ -17,14 +17,10 @@ PANEL := $(shell find .cargo Cargo.toml Cargo.lock panel reference -type f 2>/de
 
 library: $(STAGED)
 
-# check proves crates side by side, staticlib one after the other.
-target/staticlib/libkit.a: $(CRATES)
-	tools/prove check kit
-	tools/prove staticlib kit
-
-$(STAGE)/lib/libfabric.a: target/staticlib/libkit.a
+$(STAGE)/lib/libfabric.a: $(CRATES)
+	tools/prove kit_c
 	install -d $(@D)
-	install -m 644 $< $@
+	install -m 644 crates/kit_c/out/libkit_c.a $@
 
 $(STAGE)/include/fabric.h: include/fabric.h
 	install -d $(@D)

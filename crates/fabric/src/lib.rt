@@ -1,4 +1,6 @@
 // Unpack, pack and record: the calls on the packed fabric and its open table.
+#![tactic(auto)]
+
 ghost use Rattle.std.specs.Prelude.{◌≡◌, ◌+◌, ◌*◌, ◌≤◌, ◌<◌, ◌++◌, length, take, drop};
 ghost use Rattle.refusals.specs.Room.{room_for};
 ghost use Rattle.refusals.specs.declared.Verdict.TheVariants.{Accepted};

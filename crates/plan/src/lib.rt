@@ -1,4 +1,6 @@
 // The order of the signals laid out for the steps: of each signal what its rule needs, so that a step looks nothing up.
+#![tactic(auto)]
+
 ghost use Rattle.std.specs.Prelude.{◌≡◌, ◌++◌, suc, ◌+◌, ◌*◌, ◌/◌, ◌≤◌, ◌<◌, length, get_or, drop};
 ghost use Rattle.digits.specs.UpTo.{up_to};
 ghost use Rattle.order.specs.Graph.{most_signals};
@@ -15,7 +17,7 @@ use netlist::Size;
 use order::{MOST_SIGNALS, wide};
 
 // What a signal's rule needs: its number, the signal, the component that gives it, and the channels at its ports.
-#[derive(Drop)]
+#[derive(Clone, Copy)]
 pub struct Place {
     pub rule: u16,
     pub signal: usize,

@@ -1,4 +1,6 @@
 // The sums of the flows and the weights of a proposal, filled term by term.
+#![tactic(auto)]
+
 ghost use Rattle.std.specs.Prelude.{◌≡◌, ◌+◌, ◌*◌, ◌≤◌, ◌<◌, ◌^◌, true, cond, length, pos, nat_abs};
 ghost use Rattle.digits.specs.Packed.{joined, bytes};
 ghost use Rattle.integers.specs.Sum.{same};
@@ -22,7 +24,7 @@ use refusals::Verdict;
 pub const MOST_TERMS: usize = 4096;
 
 // A term of a proposal.
-#[derive(Drop)]
+#[derive(Clone, Copy)]
 struct Term {
     component: usize,
     index: usize,
