@@ -1,1 +1,2 @@
 // Laws of a step: every equation holds in it; there is no code here.
+#![tactic(auto)]

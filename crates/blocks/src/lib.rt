@@ -1,4 +1,6 @@
 // The blocks of a file of proposals.
+#![tactic(auto)]
+
 ghost use Rattle.std.specs.Prelude.{◌≡◌, cond, suc, ◌+◌, ◌≤◌, ◌<◌, length};
 ghost use Rattle.blocks.specs.Blocks.{most_blocks, term_count, blocks, bad_blocks};
 

@@ -1,4 +1,6 @@
 // ceiling: by a sum that is accepted, the most of one colour that can ever stand in one queue.
+#![tactic(auto)]
+
 ghost use Rattle.std.specs.Prelude.{◌≡◌, cond, ◌+◌, ◌*◌};
 ghost use Rattle.refusals.specs.declared.Verdict.TheVariants.{Refused};
 ghost use Rattle.component.specs.Limits.{most_entries};
@@ -31,7 +33,7 @@ fn entry_of(table: &[u8], size: Size, queue: u64, colour: u64) -> usize
 }
 
 // A verdict on a place, and its ceiling; 0 where it is refused.
-#[derive(Drop)]
+#[derive(Clone, Copy)]
 pub struct Bound {
     pub verdict: Verdict,
     pub ceiling: usize,

@@ -1,4 +1,6 @@
 // check: the call on the sums of a fabric.
+#![tactic(auto)]
+
 ghost use Rattle.std.specs.Prelude.{◌≡◌, ◌/◌, length};
 ghost use Rattle.checking.specs.Check.{check_verdict, check_constant, weights_after_check, bytes_after_check};
 

@@ -1,4 +1,6 @@
 // Whether a state is good and choices are allowed: the lowest that is not.
+#![tactic(auto)]
+
 ghost use Rattle.std.specs.Prelude.{◌≡◌, true, ℕ, ◌+◌, ◌*◌, ◌≤◌, ◌<◌, ltb, eqb, length, get_or};
 ghost use Rattle.record.specs.Table.{row};
 ghost use Rattle.record.specs.Sizes.{row_size};

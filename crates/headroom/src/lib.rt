@@ -1,4 +1,6 @@
 // What a sum leaves for one place: its constant and, with every queue full, what the weights below 0 come to.
+#![tactic(auto)]
+
 ghost use Rattle.std.specs.Prelude.{◌≡◌, ◌+◌, ◌*◌, ◌/◌, ◌^◌, ◌≤◌, ◌<◌, min, get_or, pos, ◌+ℤ◌};
 ghost use Rattle.integers.specs.Sign.{above_zero, below_zero};
 ghost use Rattle.integers.specs.Tables.{Near};

@@ -1,1 +1,2 @@
 // From start on, every colour that moves lies in the set of its channel; there is no code here.
+#![tactic(auto)]

@@ -1,4 +1,6 @@
 // The verdict on a proposal for a fabric that was read: flows that are left, the weights and the constant.
+#![tactic(auto)]
+
 ghost use Rattle.std.specs.Prelude.{◌≡◌, ◌+◌, ◌*◌, ◌%◌, ◌≤◌, ◌<◌, ◌^◌, cond, not, ◌||◌, ◌++◌, eqb, ltb, length, get_or, drop, pos, nat_abs};
 ghost use Rattle.std.specs.Int.{w64};
 ghost use Rattle.std.proofs.Common.{of_z};
@@ -55,7 +57,7 @@ fn constant_of(w: &[i64; MOST_ENTRIES], table: &[u8], size: Size) -> i64
 }
 
 // A verdict on a proposal, and the constant; 0 where it is refused.
-#[derive(Drop)]
+#[derive(Clone, Copy)]
 pub struct Judgement {
     pub verdict: Verdict,
     pub constant: i64,
@@ -174,7 +176,7 @@ pub fn judge(
 }
 
 // A judgement; and of one entry, how far its weight is above 0 and, where it is, what the weights below 0 come to.
-#[derive(Drop)]
+#[derive(Clone, Copy)]
 pub struct Weighing {
     pub judgement: Judgement,
     pub weight: usize,

@@ -1,4 +1,6 @@
 // The search for a flow that is left: in a table of sums, inside the colour sets.
+#![tactic(auto)]
+
 ghost use Rattle.std.specs.Prelude.{◌≡◌, ◌*◌, ◌≤◌, length};
 ghost use Rattle.digits.specs.Least.{least};
 ghost use Rattle.component.specs.Limits.{most_flows};

@@ -1,4 +1,6 @@
 // The text of the listing program, written into lent memory.
+#![tactic(auto)]
+
 ghost use Rattle.std.specs.Prelude.{◌≡◌, [], ◌∷◌, ◌++◌, ◌+◌, ◌≤◌, ◌<◌, length, get_or, take, drop, pos, nat_abs};
 ghost use Rattle.lines.specs.Decimal.{decimal};
 ghost use Rattle.lines.specs.Listing.{text_field, weight_line, weight_lines, sum_line, refusal_line, listing};

@@ -11,7 +11,7 @@ use lib.Seq.{get_or-set_other}
 use Rattle.order.specs.Graph.{Depends, Path⁺, one, more, Circular, walks, has_circle}
 use Rattle.order.specs.Zeros.{zeros}
 use Rattle.order.proofs.Graph.{any_some, any-has, walks-here, walks_next, walks-zero, walks-suc}
-use Rattle.order.proofs.Zeros.{zeros-set, zeros-replicate, get_d-zeros}
+use Rattle.order.proofs.Zeros.{zeros-set, zeros-replicate, get_or-zeros}
 
 module _ (D : ℕ → ℕ → ℕ) (n : ℕ) where
   from : {s e : ℕ} → Path⁺ D n s e → s < n
@@ -63,7 +63,7 @@ module _ (D : ℕ → ℕ → ℕ) (n : ℕ) where
   unfolding has_circle
   has-circular h =
       let r = any_some n (walks D n n) h in
-      stuck n r.0 (replicate n 0) (length-replicate n 0) (omega (arith, zeros-replicate n)) (λ x q. absurd (omega (arith, get_d-zeros n x))) r.2
+      stuck n r.0 (replicate n 0) (length-replicate n 0) (omega (arith, zeros-replicate n)) (λ x q. absurd (omega (arith, get_or-zeros n x))) r.2
 
   pub circle-agrees : (has_circle D n ≡ true) ↔ Circular D n
   circle-agrees = (has-circular, circular-has)

@@ -10,13 +10,13 @@ use lib.Seq.{get_or-set_same, get_or-set_other}
 use Rattle.order.specs.Graph.{dep, Depends, walks, has_circle, Sorted, most_signals}
 use Rattle.order.specs.Places.{SoundPlaces, Kept}
 use Rattle.order.proofs.Graph.{any_some, walks_next}
-use Rattle.order.proofs.Zeros.{zeros-set, zeros-all, zeros-replicate, get_d-zeros}
+use Rattle.order.proofs.Zeros.{zeros-set, zeros-all, zeros-replicate, get_or-zeros}
 
 -- nothing is in the order yet
 pub good_none : (D O : List ℕ) (n : ℕ) → 4 * n ≤ length D → n ≤ length O → n ≤ most_signals → SoundPlaces D (replicate n 0) O 0
 good_none D O n t l h =
     let len = length-replicate {A = ℕ} n 0 in
-    let z = get_d-zeros n in
+    let z = get_or-zeros n in
     record {
       table = omega arith;
       fits = omega arith;

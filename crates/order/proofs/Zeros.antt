@@ -27,7 +27,7 @@ unfolding zeros
 zeros-replicate zero = refl
 zeros-replicate (suc n) = ap suc (zeros-replicate n)
 
-pub get_d-zeros : (n x : ℕ) → ◌≡◌ {A = ℕ} (get_or (replicate n 0) x 0) 0
-get_d-zeros zero x = refl
-get_d-zeros (suc n) zero = refl
-get_d-zeros (suc n) (suc x) = get_d-zeros n x
+pub get_or-zeros : (n x : ℕ) → ◌≡◌ {A = ℕ} (get_or (replicate n 0) x 0) 0
+get_or-zeros zero x = refl
+get_or-zeros (suc n) zero = refl
+get_or-zeros (suc n) (suc x) = get_or-zeros n x

@@ -1,4 +1,6 @@
 // reach: the call on the colours that can reach each channel.
+#![tactic(auto)]
+
 ghost use Rattle.std.specs.Prelude.{◌≡◌, ◌++◌, ◌≤◌, length, drop};
 ghost use Rattle.digits.specs.UpTo.{up_to};
 ghost use Rattle.netlist.specs.Netlist.{netlist_of};

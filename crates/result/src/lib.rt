@@ -1,4 +1,6 @@
 // The result of a block, for a fabric that was read.
+#![tactic(auto)]
+
 ghost use Rattle.std.specs.Prelude.{◌≡◌, ◌++◌, ◌+◌, ◌*◌, ◌≤◌, length, drop, pos};
 ghost use Rattle.digits.specs.UpTo.{up_to};
 ghost use Rattle.component.specs.Limits.{most_components};

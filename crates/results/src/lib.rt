@@ -1,4 +1,6 @@
 // The results of all blocks of a file, for a fabric that was read.
+#![tactic(auto)]
+
 ghost use Rattle.std.specs.Prelude.{◌≡◌, ◌≤◌, length};
 ghost use Rattle.netlist.specs.Netlist.{netlist_of};
 ghost use Rattle.netlist.specs.Accepted.{AcceptedNetlist};

@@ -1,5 +1,7 @@
 // All signals of a fabric, worked out one by one along a plan, and what moves. In memory they are numbers, two a channel: its offer,
 // then its take.
+#![tactic(auto)]
+
 ghost use Rattle.std.specs.Prelude.{◌≡◌, ◌++◌, ℕ, ◌+◌, ◌*◌, ◌≤◌, ◌<◌, length, get_or, drop};
 ghost use Rattle.digits.specs.UpTo.{up_to};
 ghost use Rattle.record.specs.Table.{row};

@@ -10,7 +10,7 @@ use lib.Dec.{ltb}
 use lib.ListN.{length, get_or, replicate, length-replicate}
 use borrow.Author.Tests.{lt-ltb}
 use Rattle.digits.proofs.Bools.{and-false}
-use Rattle.order.proofs.Zeros.{get_d-zeros}
+use Rattle.order.proofs.Zeros.{get_or-zeros}
 use Rattle.component.specs.Kind.{Port, port_use, is_output}
 use Rattle.component.specs.Limits.{most_flows}
 use Rattle.component.specs.Row.{kind, has_colour}
@@ -34,7 +34,7 @@ spread_none f {sets} {list} e q = record {
 }
   where
     zero-at : (x : ℕ) → get_or sets x 0 ≡ 0
-    zero-at x = ap (λ (l : List ℕ). get_or l x 0) e ∙ get_d-zeros 256 x
+    zero-at x = ap (λ (l : List ℕ). get_or l x 0) e ∙ get_or-zeros 256 x
 
 pub cover-none : {f : Netlist} {sets list : List ℕ} {n : ℕ} → CoveredTo f 0 sets list n 0
 cover-none = record { covered = λ k l p o. absurd (omega arith) }

@@ -1,4 +1,6 @@
 // Start writes fillings and nothing held.
+#![tactic(auto)]
+
 ghost use Rattle.std.specs.Prelude.{◌≡◌, List, ℕ, ◌≤◌, length, replicate};
 ghost use Rattle.component.specs.Kind.{queue, kind_of};
 ghost use Rattle.component.specs.Row.{filling, fill_colour};

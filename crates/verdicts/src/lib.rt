@@ -1,4 +1,6 @@
 // The verdicts of start, step and run on an accepted fabric.
+#![tactic(auto)]
+
 ghost use Rattle.std.specs.Prelude.{◌≡◌, List, ℕ, ◌≤◌};
 ghost use Rattle.refusals.specs.Refusals.{first_refusal};
 ghost use Rattle.component.specs.Limits.{most_components};

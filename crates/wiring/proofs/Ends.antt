@@ -14,7 +14,7 @@ use Rattle.digits.specs.Least.{least}
 use Rattle.digits.specs.Count.{count}
 use Rattle.digits.proofs.Count.{count_yes, count_no, count-only}
 use Rattle.digits.proofs.Least.{least_at, least-before, least-same}
-use Rattle.order.proofs.Zeros.{get_d-zeros}
+use Rattle.order.proofs.Zeros.{get_or-zeros}
 use Rattle.component.specs.Kind.{Use, input, output, unused, is_output, is_input, port_use}
 use Rattle.component.specs.Row.{kind, port}
 use Rattle.component.specs.Limits.{most_channels, most_components}
@@ -101,7 +101,7 @@ slot-hit unused false x y h = ne_eqb 512 (2 * x + 1) (λ q. absurd (omega arith)
 
 -- nothing is noted before the first
 pub ends-none : (table : List ℕ) → FoundEnds table 0 (replicate ends_size 0)
-ends-none table = record { long = length-replicate {A = ℕ} ends_size 0; at = λ side x h. get_d-zeros ends_size (signal_at side x) ∙ sym (found-zero (is_end table side x)) }
+ends-none table = record { long = length-replicate {A = ℕ} ends_size 0; at = λ side x h. get_or-zeros ends_size (signal_at side x) ∙ sym (found-zero (is_end table side x)) }
 
 pub found_at : {table ends : List ℕ} {a b : ℕ} → a ≡ b → FoundEnds table a ends → FoundEnds table b ends
 found_at {table} {ends} e noted = subst (λ (n : ℕ). FoundEnds table n ends) e noted

@@ -3,6 +3,5 @@ use borrow.Author.Rules.{rules}
 use Rattle.record.proofs.Table.{row_at}
 use Rattle.component.proofs.field.Goals as goal
 
--- src/lib.rt:22:1
 pub returns : goal.returns
 returns c = let a = c.args in sym (row_at a.table.now a.k a.j (search rules))

@@ -3,6 +3,5 @@ use borrow.Author.Rules.{rules}
 use Rattle.component.proofs.Row.{port-field}
 use Rattle.component.proofs.port.Goals as goal
 
--- src/lib.rt:50:1
 pub returns : goal.returns
 returns c = let a = c.args in c.field.ensures ∙ port-field _ a.p (search rules)

@@ -12,7 +12,6 @@ use Rattle.reader.proofs.Facts.{read-fabric, rows-front}
 use Rattle.fabric.proofs.Unpacked.{unpacked-rejected, unpacked-fabric, table_of, table-copied}
 use Rattle.fabric.proofs.unpack.Goals as goal
 
--- src/lib.rt:46:17
 pub with_room-answer-requires : goal.with_room-answer-requires
 with_room-answer-requires c =
     let a = c.args in
@@ -21,7 +20,6 @@ with_room-answer-requires c =
     let e = sym read.is ∙ c.in-Fabric.is in
     (accepted-long f e).1
 
--- src/lib.rt:50:21
 pub copy-requires : goal.copy-requires
 copy-requires c =
     let a = c.args in
@@ -32,7 +30,6 @@ copy-requires c =
     let r = room-space Accepted (length a.table.now) (row_size * c.in-Fabric.size.components) q.0 in
     (omega (arith, (accepted-long f e).1, c.read.auto.table), omega (arith, r))
 
--- src/lib.rt:37:1
 pub returns-in-Rejected : goal.returns-in-Rejected
 returns-in-Rejected c =
     let a = c.args in
@@ -42,7 +39,6 @@ returns-in-Rejected c =
     let u = unpacked-rejected f (length a.table.now) e in
     (u, table_of f a.table.now _ u)
 
--- src/lib.rt:37:1
 pub returns-in-Rejected-answer : goal.returns-in-Rejected-answer
 returns-in-Rejected-answer c =
     let a = c.args in
@@ -52,7 +48,6 @@ returns-in-Rejected-answer c =
     let u = sym c.in-Rejected-answer.is ∙ c.with_room-answer.ensures ∙ unpacked-fabric f e (length a.table.now) in
     (u, table_of f a.table.now _ u)
 
--- src/lib.rt:37:1
 pub returns-in-Fabric-answer : goal.returns-in-Fabric-answer
 returns-in-Fabric-answer c =
     let a = c.args in

@@ -8,7 +8,6 @@ use Rattle.wiring.specs.Ports.{code_has}
 use Rattle.wiring.proofs.Ports.{end-has, near-port}
 use Rattle.wiring.proofs.depends_at.Goals as goal
 
--- src/lib.rt:156:9
 pub returns-then-code_has : goal.returns-then-code_has
 returns-then-code_has c =
     let a = c.args in
@@ -16,7 +15,6 @@ returns-then-code_has c =
     sym (end-has a.table.now a.e c.requires.1 a.j c.requires.3) ∙ ap (λ (x : ℕ). code_has x a.j) (sym c.requires.2) ∙ sym c.code_has.ensures ∙ c.if-code_has.true in
     rw on (ap (λ (x : ℕ). 2 * x + a.j / 2) (c.wide-x.ensures.0 ∙ c.port.ensures) ∙ near-port (end_row a.table.now a.e) a.j c.requires.3)
 
--- src/lib.rt:150:1
 pub returns : goal.returns
 returns c =
     let a = c.args in

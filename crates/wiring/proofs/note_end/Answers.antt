@@ -6,7 +6,6 @@ use Rattle.wiring.proofs.Ends.{ends_more}
 use Rattle.wiring.proofs.Ports.{port-channel, port-slot}
 use Rattle.wiring.proofs.note_end.Goals as goal
 
--- src/lib.rt:97:1
 pub returns : goal.returns
 returns c =
     let table = c.args.table.now in

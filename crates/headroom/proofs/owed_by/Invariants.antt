@@ -1,0 +1,13 @@
+use mathlib.Core.Path.{◌≡◌}
+use Prim.Native.Nat.{◌+◌, ◌*◌, ◌-◌, ◌^◌, ◌≤◌}
+use lib.ListN.{get_or}
+use lib.IntN.{pos}
+use Rattle.integers.specs.Sign.{below_zero}
+use Rattle.integers.specs.Total.{total}
+use Rattle.headroom.proofs.owed_by.Given as goal
+
+abbrev pub invariant-loop-d : goal.invariant-loop-d
+invariant-loop-d l = (l.d ≤ l.colours) × (l.s ≡ total l.d (λ d. below_zero (get_or l.w (8 * l.q + d) (pos 0)) * l.capacity)) × (l.s ≤ 2 ^ 48 * l.d)
+
+abbrev pub decreases-loop-d : goal.decreases-loop-d
+decreases-loop-d l = l.colours - l.d

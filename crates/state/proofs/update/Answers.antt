@@ -1,0 +1,35 @@
+use mathlib.Core.Path.{◌≡◌, ◌∙◌}
+use Prim.Native.Nat.{◌+◌, ◌-◌, ◌*◌}
+use native.Mathlib.Omega.{arith}
+use lib.ListN.{length}
+use Rattle.cells.specs.Cells.{cell_size}
+use Rattle.cells.proofs.Cells.{none-laid, all_laid, lent-long, lent_is, laid_more}
+use Rattle.state.specs.Step.{next_at, state_next}
+use Rattle.state.proofs.update.Goals as goal
+
+pub loop-k-init : goal.loop-k-init
+loop-k-init c = none-laid _ _ _
+
+pub cell_next-requires : goal.cell_next-requires
+cell_next-requires c =
+    let p = c.requires.0 in
+    let l = c.loop-k in
+    let h = c.loop-k-test.true in
+    let w : cell_size * l.k + cell_size - cell_size * l.k ≡ cell_size = omega arith in
+    rw (w, lent_is l.invariant h p.states) (p.each l.k h)
+
+pub loop-k-preserved : goal.loop-k-preserved
+unfolding next_at
+loop-k-preserved c =
+    let p = c.requires.0 in
+    let l = c.loop-k in
+    let h = c.loop-k-test.true in
+    let w : cell_size * l.k + cell_size - cell_size * l.k ≡ cell_size = omega arith in
+    let u = l.invariant in
+    let new = c.cell_next in
+    let long : length new.new.q ≡ cell_size = rw w at new.auto.q ∙ lent-long u h p.states in
+    rw w (laid_more u h p.states new.new.q long (rw (w, lent_is u h p.states) at new.ensures))
+
+pub returns : goal.returns
+unfolding state_next
+returns c = all_laid c.loop-k.invariant (omega arith)
