@@ -1,4 +1,6 @@
 // check_many: the call on many proposals for one fabric.
+#![tactic(auto)]
+
 ghost use Rattle.std.specs.Prelude.{◌≡◌, ◌+◌, ◌*◌, ◌/◌, ◌≤◌, length};
 ghost use Rattle.component.specs.Limits.{most_components};
 ghost use Rattle.many.specs.Many.{many_verdict, table_after_many, bytes_after_many, found_verdict};

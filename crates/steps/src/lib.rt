@@ -1,4 +1,6 @@
 // start, step and run on an accepted fabric: the state at start, after a step, after whole steps in a row.
+#![tactic(auto)]
+
 ghost use Rattle.std.specs.Prelude.{◌≡◌, ◌++◌, ◌*◌, ◌/◌, ◌≤◌, length, drop};
 ghost use Rattle.digits.specs.UpTo.{up_to};
 ghost use Rattle.refusals.specs.Refusals.{first_refusal, kept};

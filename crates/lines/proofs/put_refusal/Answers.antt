@@ -1,4 +1,3 @@
-use borrow.Author.Rules.{rules}
 use Rattle.lines.specs.Listing.{refusal_line}
 use Rattle.lines.proofs.Put.{put_then}
 use Rattle.lines.proofs.put_refusal.Goals as goal

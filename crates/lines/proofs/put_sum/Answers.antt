@@ -1,4 +1,3 @@
-use borrow.Author.Rules.{rules}
 use Rattle.lines.specs.Listing.{sum_line}
 use Rattle.lines.proofs.Signs.{handed}
 use Rattle.lines.proofs.Put.{put_then}

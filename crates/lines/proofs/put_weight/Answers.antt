@@ -1,4 +1,3 @@
-use borrow.Author.Rules.{rules}
 use Rattle.integers.proofs.Near.{zero_bits, nonzero-bits}
 use Rattle.lines.proofs.Signs.{handed}
 use Rattle.lines.proofs.Put.{put-none, put_then}

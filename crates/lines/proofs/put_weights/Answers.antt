@@ -1,12 +1,7 @@
-use mathlib.Core.Path.{◌≡◌, subst}
-use Prim.Native.Nat.{ℕ, ◌*◌, ◌-◌, ◌≤◌}
-use lib.ListN.{length, get_or}
+use lib.ListN.{get_or}
 use lib.IntN.{pos}
-use borrow.Author.Rules.{rules}
 use native.Mathlib.Omega.{arith}
-use Rattle.lines.specs.Listing.{weight_lines}
-use Rattle.lines.specs.Put.{Put}
-use Rattle.lines.proofs.Put.{put-none, put-wider}
+use Rattle.lines.proofs.Put.{put-none}
 use Rattle.lines.proofs.Listing.{lines_none, weights-more}
 use Rattle.lines.proofs.put_weights.Goals as goal
 
