@@ -1,1 +1,2 @@
 // The list of calls on a state: definitions and their induction, no code.
+#![tactic(auto)]

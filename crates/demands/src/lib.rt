@@ -1,1 +1,2 @@
 // What is promised of the calls: theorems, no code.
+#![tactic(auto)]

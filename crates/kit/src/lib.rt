@@ -63,12 +63,7 @@ pub fn fabric_start_place(fabric: &[u8], state: &[u8]) -> u64
     refusals::place_of(stepping::start_answer(fabric, state.len())) as u64
 }
 
-pub fn fabric_step(
-    fabric: &[u8],
-    state: &mut [u8],
-    choices: &[u8],
-    moves: &mut [u8],
-) -> u32
+pub fn fabric_step(fabric: &[u8], state: &mut [u8], choices: &[u8], moves: &mut [u8]) -> u32
     ensures { (result ≡ number_of (step_verdict fabric.now state.old choices.now (length moves.old)))
         × (state.new ≡ state_after_step fabric.now state.old choices.now (length moves.old))
         × (moves.new ≡ moves_after_step fabric.now state.old choices.now moves.old) }
@@ -76,12 +71,7 @@ pub fn fabric_step(
     refusals::number_of(stepping::step(fabric, &mut *state, choices, &mut *moves))
 }
 
-pub fn fabric_step_place(
-    fabric: &[u8],
-    state: &[u8],
-    choices: &[u8],
-    moves: &[u8],
-) -> u64
+pub fn fabric_step_place(fabric: &[u8], state: &[u8], choices: &[u8], moves: &[u8]) -> u64
     ensures { result ≡ place_of (step_verdict fabric.now state.now choices.now (length moves.now)) }
 {
     refusals::place_of(stepping::step_answer(fabric, state, choices, moves.len())) as u64
@@ -142,12 +132,7 @@ pub fn fabric_ceiling(fabric: &[u8], proposal: &[u8], queue: u64, colour: u64) -
     refusals::number_of(v)
 }
 
-pub fn fabric_ceiling_place(
-    fabric: &[u8],
-    proposal: &[u8],
-    queue: u64,
-    colour: u64,
-) -> u64
+pub fn fabric_ceiling_place(fabric: &[u8], proposal: &[u8], queue: u64, colour: u64) -> u64
     ensures { result ≡ place_of (ceiling_verdict fabric.now proposal.now queue colour) }
 {
     let bound = ceiling::ceiling(fabric, proposal, queue, colour);
@@ -155,12 +140,7 @@ pub fn fabric_ceiling_place(
     refusals::place_of(v) as u64
 }
 
-pub fn fabric_ceiling_value(
-    fabric: &[u8],
-    proposal: &[u8],
-    queue: u64,
-    colour: u64,
-) -> u64
+pub fn fabric_ceiling_value(fabric: &[u8], proposal: &[u8], queue: u64, colour: u64) -> u64
     ensures { result ≡ ceiling_value fabric.now proposal.now queue colour }
 {
     ceiling::ceiling(fabric, proposal, queue, colour).ceiling as u64
