@@ -68,23 +68,37 @@ module _ (c : After-struct_told-1) where
 
 pub returns-then-u-eq-MOST_ENTRIES : goal.returns-then-u-eq-MOST_ENTRIES
 returns-then-u-eq-MOST_ENTRIES c =
-    let gone = past_all (f (goal.at.returns-then-u-eq-MOST_ENTRIES c).Start) c.requires.accepted_netlist (q (goal.at.returns-then-u-eq-MOST_ENTRIES c).Start) (d (goal.at.returns-then-u-eq-MOST_ENTRIES c).Start) c.entry_of-u.ensures c.if-u-eq-MOST_ENTRIES.true in
-    refused-is (f (goal.at.returns-then-u-eq-MOST_ENTRIES c).Start) (p (goal.at.returns-then-u-eq-MOST_ENTRIES c).Start) (q (goal.at.returns-then-u-eq-MOST_ENTRIES c).Start) (d (goal.at.returns-then-u-eq-MOST_ENTRIES c).Start) c.refused-then-u-eq-MOST_ENTRIES.ensures (place-tests (f (goal.at.returns-then-u-eq-MOST_ENTRIES c).Start) (p (goal.at.returns-then-u-eq-MOST_ENTRIES c).Start) (q (goal.at.returns-then-u-eq-MOST_ENTRIES c).Start) (d (goal.at.returns-then-u-eq-MOST_ENTRIES c).Start) (ok (goal.at.returns-then-u-eq-MOST_ENTRIES c).In-Accepted) gone refl)
+    let start = (goal.at.returns-then-u-eq-MOST_ENTRIES c).Start in
+    let gone = past_all (f start) c.requires.accepted_netlist (q start) (d start) c.entry_of-u.ensures c.if-u-eq-MOST_ENTRIES.true in
+    refused-is (f start) (p start) (q start) (d start) c.refused-then-u-eq-MOST_ENTRIES.ensures (place-tests (f start) (p start) (q start) (d start) (ok (goal.at.returns-then-u-eq-MOST_ENTRIES c).In-Accepted) gone refl)
 
 pub returns-then-a-eq0 : goal.returns-then-a-eq0
-returns-then-a-eq0 c = refused-is (f (goal.at.returns-then-a-eq0 c).Start) (p (goal.at.returns-then-a-eq0 c).Start) (q (goal.at.returns-then-a-eq0 c).Start) (d (goal.at.returns-then-a-eq0 c).Start) c.refused-then-a-eq0.ensures (place-tests (f (goal.at.returns-then-a-eq0 c).Start) (p (goal.at.returns-then-a-eq0 c).Start) (q (goal.at.returns-then-a-eq0 c).Start) (d (goal.at.returns-then-a-eq0 c).Start) (ok (goal.at.returns-then-a-eq0 c).In-Accepted) (place (goal.at.returns-then-a-eq0 c).Else-u-eq-MOST_ENTRIES) (above-none (f (goal.at.returns-then-a-eq0 c).Start) (p (goal.at.returns-then-a-eq0 c).Start) (q (goal.at.returns-then-a-eq0 c).Start) (d (goal.at.returns-then-a-eq0 c).Start) (weight_is (goal.at.returns-then-a-eq0 c).Else-u-eq-MOST_ENTRIES) c.if-a-eq0.true))
+returns-then-a-eq0 c =
+    let start = (goal.at.returns-then-a-eq0 c).Start in
+    let later = (goal.at.returns-then-a-eq0 c).Else-u-eq-MOST_ENTRIES in
+    refused-is (f start) (p start) (q start) (d start) c.refused-then-a-eq0.ensures (place-tests (f start) (p start) (q start) (d start) (ok (goal.at.returns-then-a-eq0 c).In-Accepted) (place later) (above-none (f start) (p start) (q start) (d start) (weight_is later) c.if-a-eq0.true))
 
 pub raise-left-requires : goal.raise-left-requires
-raise-left-requires c = (omega (arith, headroom-natural (f (goal.at.raise-left-requires c).Start) (p (goal.at.raise-left-requires c).Start) c.requires.accepted_netlist, ap below_zero (constant-is (goal.at.raise-left-requires c).After-struct_told-1), ap above_zero (constant-is (goal.at.raise-left-requires c).After-struct_told-1), owed-is (goal.at.raise-left-requires c).After-struct_told-1), c.judge_entry-a.ensures.near)
+raise-left-requires c =
+    let start = (goal.at.raise-left-requires c).Start in
+    let later = (goal.at.raise-left-requires c).After-struct_told-1 in
+    (omega (arith, headroom-natural (f start) (p start) c.requires.accepted_netlist, ap below_zero (constant-is later), ap above_zero (constant-is later), owed-is later), c.judge_entry-a.ensures.near)
 
 pub capacity-requires : goal.capacity-requires
-capacity-requires c = omega (arith, (place-of (f (goal.at.capacity-requires c).Start) (q (goal.at.capacity-requires c).Start) (d (goal.at.capacity-requires c).Start) (place (goal.at.capacity-requires c).Else-u-eq-MOST_ENTRIES)).0, c.requires.accepted_netlist.facts.long)
+capacity-requires c =
+    let start = (goal.at.capacity-requires c).Start in
+    omega (arith, (place-of (f start) (q start) (d start) (place (goal.at.capacity-requires c).Else-u-eq-MOST_ENTRIES)).0, c.requires.accepted_netlist.facts.long)
 
 pub returns-in-Refused : goal.returns-in-Refused
-returns-in-Refused c = refused-is (f (goal.at.returns-in-Refused c).Start) (p (goal.at.returns-in-Refused c).Start) (q (goal.at.returns-in-Refused c).Start) (d (goal.at.returns-in-Refused c).Start) c.refused.ensures (judged-first (f (goal.at.returns-in-Refused c).Start) (p (goal.at.returns-in-Refused c).Start) (q (goal.at.returns-in-Refused c).Start) (d (goal.at.returns-in-Refused c).Start) (sym c.in-Refused.is ∙ c.judge_entry-a.ensures.answer.0 ∙ roomy (goal.at.returns-in-Refused c).Start))
+returns-in-Refused c =
+    let start = (goal.at.returns-in-Refused c).Start in
+    refused-is (f start) (p start) (q start) (d start) c.refused.ensures (judged-first (f start) (p start) (q start) (d start) (sym c.in-Refused.is ∙ c.judge_entry-a.ensures.answer.0 ∙ roomy start))
 
 pub returns-else-a-eq0 : goal.returns-else-a-eq0
 returns-else-a-eq0 c =
-    accepted-is (f (goal.at.returns-else-a-eq0 c).Start) (p (goal.at.returns-else-a-eq0 c).Start) (q (goal.at.returns-else-a-eq0 c).Start) (d (goal.at.returns-else-a-eq0 c).Start)
-    (c.bounded.ensures ∙ value-is (f (goal.at.returns-else-a-eq0 c).Start) (p (goal.at.returns-else-a-eq0 c).Start) (q (goal.at.returns-else-a-eq0 c).Start) (d (goal.at.returns-else-a-eq0 c).Start) (constant-is (goal.at.returns-else-a-eq0 c).After-struct_told-1) (owed-is (goal.at.returns-else-a-eq0 c).After-struct_told-1) c.raise-left.ensures (weight_is (goal.at.returns-else-a-eq0 c).Else-u-eq-MOST_ENTRIES) (c.wide-most.ensures.0 ∙ c.capacity.ensures))
-    (place-tests (f (goal.at.returns-else-a-eq0 c).Start) (p (goal.at.returns-else-a-eq0 c).Start) (q (goal.at.returns-else-a-eq0 c).Start) (d (goal.at.returns-else-a-eq0 c).Start) (ok (goal.at.returns-else-a-eq0 c).In-Accepted) (place (goal.at.returns-else-a-eq0 c).Else-u-eq-MOST_ENTRIES) (above-some (f (goal.at.returns-else-a-eq0 c).Start) (p (goal.at.returns-else-a-eq0 c).Start) (q (goal.at.returns-else-a-eq0 c).Start) (d (goal.at.returns-else-a-eq0 c).Start) (weight_is (goal.at.returns-else-a-eq0 c).Else-u-eq-MOST_ENTRIES) c.if-a-eq0.false))
+    let start = (goal.at.returns-else-a-eq0 c).Start in
+    let at-After-struct_told-1 = (goal.at.returns-else-a-eq0 c).After-struct_told-1 in
+    let at-Else-u-eq-MOST_ENTRIES = (goal.at.returns-else-a-eq0 c).Else-u-eq-MOST_ENTRIES in
+    accepted-is (f start) (p start) (q start) (d start)
+    (c.bounded.ensures ∙ value-is (f start) (p start) (q start) (d start) (constant-is at-After-struct_told-1) (owed-is at-After-struct_told-1) c.raise-left.ensures (weight_is at-Else-u-eq-MOST_ENTRIES) (c.wide-most.ensures.0 ∙ c.capacity.ensures))
+    (place-tests (f start) (p start) (q start) (d start) (ok (goal.at.returns-else-a-eq0 c).In-Accepted) (place at-Else-u-eq-MOST_ENTRIES) (above-some (f start) (p start) (q start) (d start) (weight_is at-Else-u-eq-MOST_ENTRIES) c.if-a-eq0.false))

@@ -36,10 +36,11 @@ loop-d-init c = (omega arith, sym (total-none _), omega arith)
 
 pub loop-d-preserved : goal.loop-d-preserved
 loop-d-preserved c =
+    let later = (goal.at.loop-d-preserved c).After-below_zero in
     let i = c.loop-d.invariant in
     let d = c.loop-d.d in
     let g : ℕ → ℕ = λ d. below_zero (get_or c.args.w.now (8 * c.args.q + d) (pos 0)) * c.args.capacity in (
       omega arith,
-      ap₂ (λ (x y : ℕ). x + y * c.args.capacity) i.1 (below (goal.at.loop-d-preserved c).After-below_zero) ∙ sym (total-more d g),
-      omega (arith, one-le (goal.at.loop-d-preserved c).After-below_zero, i),
+      ap₂ (λ (x y : ℕ). x + y * c.args.capacity) i.1 (below later) ∙ sym (total-more d g),
+      omega (arith, one-le later, i),
     )

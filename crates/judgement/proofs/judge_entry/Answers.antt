@@ -43,34 +43,38 @@ weigh-j-requires c = record { accepted_netlist = c.requires.accepted_netlist; kn
 
 pub returns-then-u-n : goal.returns-then-u-n
 returns-then-u-n c =
+    let later = (goal.at.returns-then-u-n c).After-with_room-judged in
     let ok = c.in-Accepted.is in
     let a = c.asked.ensures in
     let l = c.if-u-n.true in
     record {
       answer = (
-        a.answer.0 ∙ (both (goal.at.returns-then-u-n c).After-with_room-judged).0,
-        a.answer.1 ∙ (both (goal.at.returns-then-u-n c).After-with_room-judged).1,
-        bytes-asked (f (goal.at.returns-then-u-n c).After-with_room-judged) (p (goal.at.returns-then-u-n c).After-with_room-judged) (u (goal.at.returns-then-u-n c).After-with_room-judged) l (v (goal.at.returns-then-u-n c).After-with_room-judged) (t (goal.at.returns-then-u-n c).After-with_room-judged),
-        a.answer.2 ∙ weight-asked (f (goal.at.returns-then-u-n c).After-with_room-judged) (p (goal.at.returns-then-u-n c).After-with_room-judged) (u (goal.at.returns-then-u-n c).After-with_room-judged) l (weighed (goal.at.returns-then-u-n c).After-with_room-judged ok) (sym ok ∙ (both (goal.at.returns-then-u-n c).After-with_room-judged).0),
-        a.answer.3 ∙ ap (λ (n : ℕ). cond (eqb c.asked.result.weight 0) 0 n) (owed-is (f (goal.at.returns-then-u-n c).After-with_room-judged) (p (goal.at.returns-then-u-n c).After-with_room-judged) c.requires.accepted_netlist.facts.few_colours (weighed (goal.at.returns-then-u-n c).After-with_room-judged ok)),
+        a.answer.0 ∙ (both later).0,
+        a.answer.1 ∙ (both later).1,
+        bytes-asked (f later) (p later) (u later) l (v later) (t later),
+        a.answer.2 ∙ weight-asked (f later) (p later) (u later) l (weighed later ok) (sym ok ∙ (both later).0),
+        a.answer.3 ∙ ap (λ (n : ℕ). cond (eqb c.asked.result.weight 0) 0 n) (owed-is (f later) (p later) c.requires.accepted_netlist.facts.few_colours (weighed later ok)),
       );
       near = a.near;
     }
 
 pub returns-then-out-n : goal.returns-then-out-n
 returns-then-out-n c =
+    let later = (goal.at.returns-then-out-n c).After-with_room-judged in
     let all = let a = c.unasked-then-out-n.ensures in
     let h = c.if-u-n.false in
-    unasked-is (f (goal.at.returns-then-out-n c).After-with_room-judged) (p (goal.at.returns-then-out-n c).After-with_room-judged) (u (goal.at.returns-then-out-n c).After-with_room-judged) a (both (goal.at.returns-then-out-n c).After-with_room-judged) (bytes-short (f (goal.at.returns-then-out-n c).After-with_room-judged) (p (goal.at.returns-then-out-n c).After-with_room-judged) (t (goal.at.returns-then-out-n c).After-with_room-judged) (v (goal.at.returns-then-out-n c).After-with_room-judged) c.if-out-n.true ∙ bytes-unasked (f (goal.at.returns-then-out-n c).After-with_room-judged) (p (goal.at.returns-then-out-n c).After-with_room-judged) (u (goal.at.returns-then-out-n c).After-with_room-judged) h (v (goal.at.returns-then-out-n c).After-with_room-judged) (t (goal.at.returns-then-out-n c).After-with_room-judged)) (weight-none (f (goal.at.returns-then-out-n c).After-with_room-judged) (p (goal.at.returns-then-out-n c).After-with_room-judged) (u (goal.at.returns-then-out-n c).After-with_room-judged) h (v (goal.at.returns-then-out-n c).After-with_room-judged)) in record { answer = all.0; near = all.1 }
+    unasked-is (f later) (p later) (u later) a (both later) (bytes-short (f later) (p later) (t later) (v later) c.if-out-n.true ∙ bytes-unasked (f later) (p later) (u later) h (v later) (t later)) (weight-none (f later) (p later) (u later) h (v later)) in record { answer = all.0; near = all.1 }
 
 pub returns-in-Refused : goal.returns-in-Refused
 returns-in-Refused c =
-    let all = let e = sym c.in-Refused.is ∙ (both (goal.at.returns-in-Refused c).After-with_room-judged).0 in
-    unasked-is (f (goal.at.returns-in-Refused c).After-with_room-judged) (p (goal.at.returns-in-Refused c).After-with_room-judged) (u (goal.at.returns-in-Refused c).After-with_room-judged) c.unasked.ensures (both (goal.at.returns-in-Refused c).After-with_room-judged) (bytes_same (f (goal.at.returns-in-Refused c).After-with_room-judged) (p (goal.at.returns-in-Refused c).After-with_room-judged) (u (goal.at.returns-in-Refused c).After-with_room-judged) (v (goal.at.returns-in-Refused c).After-with_room-judged) (t (goal.at.returns-in-Refused c).After-with_room-judged) (bytes-kept (f (goal.at.returns-in-Refused c).After-with_room-judged) (p (goal.at.returns-in-Refused c).After-with_room-judged) (t (goal.at.returns-in-Refused c).After-with_room-judged) e)) (weight-refused (f (goal.at.returns-in-Refused c).After-with_room-judged) (p (goal.at.returns-in-Refused c).After-with_room-judged) (u (goal.at.returns-in-Refused c).After-with_room-judged) e) in record { answer = all.0; near = all.1 }
+    let later = (goal.at.returns-in-Refused c).After-with_room-judged in
+    let all = let e = sym c.in-Refused.is ∙ (both later).0 in
+    unasked-is (f later) (p later) (u later) c.unasked.ensures (both later) (bytes_same (f later) (p later) (u later) (v later) (t later) (bytes-kept (f later) (p later) (t later) e)) (weight-refused (f later) (p later) (u later) e) in record { answer = all.0; near = all.1 }
 
 pub returns-else-out-n : goal.returns-else-out-n
 returns-else-out-n c =
+    let later = (goal.at.returns-else-out-n c).After-with_room-judged in
     let all = let ok = c.in-Accepted.is in
     let h = c.if-u-n.false in
-    let written = c.write_bytes.ensures ∙ bytes-are (f (goal.at.returns-else-out-n c).After-with_room-judged) (p (goal.at.returns-else-out-n c).After-with_room-judged) (weighed (goal.at.returns-else-out-n c).After-with_room-judged ok) (t (goal.at.returns-else-out-n c).After-with_room-judged) c.if-out-n.false ∙ ap (λ (x : Verdict). bytes_where x (f (goal.at.returns-else-out-n c).After-with_room-judged) (p (goal.at.returns-else-out-n c).After-with_room-judged) (t (goal.at.returns-else-out-n c).After-with_room-judged)) (sym ok ∙ (both (goal.at.returns-else-out-n c).After-with_room-judged).0) in
-    unasked-is (f (goal.at.returns-else-out-n c).After-with_room-judged) (p (goal.at.returns-else-out-n c).After-with_room-judged) (u (goal.at.returns-else-out-n c).After-with_room-judged) c.unasked-in-Accepted.ensures (both (goal.at.returns-else-out-n c).After-with_room-judged) (written ∙ bytes-unasked (f (goal.at.returns-else-out-n c).After-with_room-judged) (p (goal.at.returns-else-out-n c).After-with_room-judged) (u (goal.at.returns-else-out-n c).After-with_room-judged) h (v (goal.at.returns-else-out-n c).After-with_room-judged) (t (goal.at.returns-else-out-n c).After-with_room-judged)) (weight-none (f (goal.at.returns-else-out-n c).After-with_room-judged) (p (goal.at.returns-else-out-n c).After-with_room-judged) (u (goal.at.returns-else-out-n c).After-with_room-judged) h (v (goal.at.returns-else-out-n c).After-with_room-judged)) in record { answer = all.0; near = all.1 }
+    let written = c.write_bytes.ensures ∙ bytes-are (f later) (p later) (weighed later ok) (t later) c.if-out-n.false ∙ ap (λ (x : Verdict). bytes_where x (f later) (p later) (t later)) (sym ok ∙ (both later).0) in
+    unasked-is (f later) (p later) (u later) c.unasked-in-Accepted.ensures (both later) (written ∙ bytes-unasked (f later) (p later) (u later) h (v later) (t later)) (weight-none (f later) (p later) (u later) h (v later)) in record { answer = all.0; near = all.1 }

@@ -23,11 +23,14 @@ returns-then-kind-ne2 c =
     record { value = share-none a.table.now a.w.now a.q c.kind.ensures c.if-kind-ne2.true; near = omega arith }
 
 pub overflow_mul-result-2 : goal.overflow_mul-result-2
-overflow_mul-result-2 c = let y = c.wide-filling in mul-fits (weight (goal.at.overflow_mul-result-2 c).After-wide-colour) y.result (weight-near (goal.at.overflow_mul-result-2 c).After-wide-colour) y.ensures.1
+overflow_mul-result-2 c =
+    let later = (goal.at.overflow_mul-result-2 c).After-wide-colour in
+    let y = c.wide-filling in mul-fits (weight later) y.result (weight-near later) y.ensures.1
 
 pub returns : goal.returns
 returns c =
+    let later = (goal.at.returns c).After-wide-colour in
     let a = c.args in
     let y = c.wide-filling in
-    let e = multiplied (weight (goal.at.returns c).After-wide-colour) y.result (weight-near (goal.at.returns c).After-wide-colour) y.ensures.1 in
-    record { value = e ∙ share-is a.table.now a.w.now a.q c.kind.ensures c.if-kind-ne2.false (y.ensures.0 ∙ c.filling.ensures) (c.wide-colour.ensures.0 ∙ c.fill_colour.ensures); near = omega (arith, ap nat_abs e, mul-near (weight (goal.at.returns c).After-wide-colour) y.result (weight-near (goal.at.returns c).After-wide-colour) y.ensures.1) }
+    let e = multiplied (weight later) y.result (weight-near later) y.ensures.1 in
+    record { value = e ∙ share-is a.table.now a.w.now a.q c.kind.ensures c.if-kind-ne2.false (y.ensures.0 ∙ c.filling.ensures) (c.wide-colour.ensures.0 ∙ c.fill_colour.ensures); near = omega (arith, ap nat_abs e, mul-near (weight later) y.result (weight-near later) y.ensures.1) }

@@ -26,7 +26,9 @@ pub returns-then-sets-eq0 : goal.returns-then-sets-eq0
 returns-then-sets-eq0 c = c.lowest_in.ensures ∙ inside_is (netlist_of c.args.size c.args.table.now) c.args.s.now c.work_out.ensures.0
 
 pub lowest_in-requires-2 : goal.lowest_in-requires-2
-lowest_in-requires-2 c = (omega (arith, first-le c.args.s.now (8 * c.args.size.channels) c.lowest-first.ensures), flows-few (goal.at.lowest_in-requires-2 c).Start, flows-in (given (goal.at.lowest_in-requires-2 c).Start c.if-sets-eq0.false), zeros-below c.args.s.now (8 * c.args.size.channels) c.lowest-first.ensures)
+lowest_in-requires-2 c =
+    let start = (goal.at.lowest_in-requires-2 c).Start in
+    (omega (arith, first-le c.args.s.now (8 * c.args.size.channels) c.lowest-first.ensures), flows-few start, flows-in (given start c.if-sets-eq0.false), zeros-below c.args.s.now (8 * c.args.size.channels) c.lowest-first.ensures)
 
 pub returns : goal.returns
 returns c = c.lowest_in-2.ensures ∙ inside_is (netlist_of c.args.size c.args.table.now) c.args.s.now (given (goal.at.returns c).Start c.if-sets-eq0.false)

@@ -26,7 +26,9 @@ pub slice_bounds-weigh_bytes-start : goal.slice_bounds-weigh_bytes-start
 slice_bounds-weigh_bytes-start c = omega (arith, room (goal.at.slice_bounds-weigh_bytes-start c).Start)
 
 pub weigh_bytes-j-requires : goal.weigh_bytes-j-requires
-weigh_bytes-j-requires c = record { accepted_netlist = c.requires.accepted_netlist; known = c.requires.known; room = omega (arith, room (goal.at.weigh_bytes-j-requires c).Start, part_length 24 c.args.out.now (omega (arith, room (goal.at.weigh_bytes-j-requires c).Start))) }
+weigh_bytes-j-requires c =
+    let start = (goal.at.weigh_bytes-j-requires c).Start in
+    record { accepted_netlist = c.requires.accepted_netlist; known = c.requires.known; room = omega (arith, room start, part_length 24 c.args.out.now (omega (arith, room start))) }
 
 pub write_entry-requires : goal.write_entry-requires
 write_entry-requires c = (omega arith, omega (arith, c.out-1.given.1, room (goal.at.write_entry-requires c).Start))
@@ -42,9 +44,10 @@ write_entry-requires-3 c = (omega arith, omega (arith, c.out-3-1.given, c.out-2-
 
 pub returns : goal.returns
 returns c =
+    let start = (goal.at.returns c).Start in
     let f = netlist_of c.args.size c.args.table.now in
     let p = c.args.block.now in
     let w = c.weigh_bytes-j.ensures in
-    bytes-put f p c.args.out.now c.requires.room.1 w.2 (number-signed (small (goal.at.returns c).Start) w.0 c.number_of.ensures) (place-signed (small (goal.at.returns c).Start) w.0 c.place_of.ensures)
+    bytes-put f p c.args.out.now c.requires.room.1 w.2 (number-signed (small start) w.0 c.number_of.ensures) (place-signed (small start) w.0 c.place_of.ensures)
     (to_z-of_z w64 c.weigh_bytes-j.result.constant (record { sfits = c.struct_told-1.given.1.0.1 }) ∙ w.1)
     c.write_entry.ensures c.write_entry-2.ensures c.write_entry-3.ensures

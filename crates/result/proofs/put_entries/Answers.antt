@@ -40,7 +40,9 @@ pub slice_bounds-weigh_entries-start : goal.slice_bounds-weigh_entries-start
 slice_bounds-weigh_entries-start c = omega (arith, room (goal.at.slice_bounds-weigh_entries-start c).Start)
 
 pub weigh_entries-j-requires : goal.weigh_entries-j-requires
-weigh_entries-j-requires c = record { accepted_netlist = c.requires.accepted_netlist; known = c.requires.known; room = omega (arith, room (goal.at.weigh_entries-j-requires c).Start, part_length 3 c.args.out.now (omega (arith, room (goal.at.weigh_entries-j-requires c).Start))) }
+weigh_entries-j-requires c =
+    let start = (goal.at.weigh_entries-j-requires c).Start in
+    record { accepted_netlist = c.requires.accepted_netlist; known = c.requires.known; room = omega (arith, room start, part_length 3 c.args.out.now (omega (arith, room start))) }
 
 pub overflow_cast-place : goal.overflow_cast-place
 overflow_cast-place c = place-fits (small (goal.at.overflow_cast-place c).Start) c.weigh_entries-j.ensures.0 c.place_of-place.ensures
@@ -49,17 +51,21 @@ pub bounds-out-0 : goal.bounds-out-0
 bounds-out-0 c = inside (goal.at.bounds-out-0 c).After-out-1 (omega arith)
 
 pub bounds-out-1 : goal.bounds-out-1
-bounds-out-1 c = lt-length-set (weighed (goal.at.bounds-out-1 c).After-out-1) 0 (to_z w64 c.number_of-number.result) (inside (goal.at.bounds-out-1 c).After-out-1 (omega arith))
+bounds-out-1 c =
+    let later = (goal.at.bounds-out-1 c).After-out-1 in
+    lt-length-set (weighed later) 0 (to_z w64 c.number_of-number.result) (inside later (omega arith))
 
 pub bounds-out-2 : goal.bounds-out-2
 bounds-out-2 c =
+    let later = (goal.at.bounds-out-2 c).After-out-1 in
     let n = to_z w64 c.number_of-number.result in
-    lt-length-set (set (weighed (goal.at.bounds-out-2 c).After-out-1) 0 n) 1 (to_z w64 c.place_of-place.result) (lt-length-set (weighed (goal.at.bounds-out-2 c).After-out-1) 0 n (inside (goal.at.bounds-out-2 c).After-out-1 (omega arith)))
+    lt-length-set (set (weighed later) 0 n) 1 (to_z w64 c.place_of-place.result) (lt-length-set (weighed later) 0 n (inside later (omega arith)))
 
 pub returns : goal.returns
 returns c =
+    let start = (goal.at.returns c).Start in
     let f = netlist_of c.args.size c.args.table.now in
     let p = c.args.block.now in
     let w = c.weigh_entries-j.ensures in
-    entries-put f p c.args.out.now c.requires.room.1 w.2 (number-signed (small (goal.at.returns c).Start) w.0 c.number_of-number.ensures) (place-signed (small (goal.at.returns c).Start) w.0 c.place_of-place.ensures)
+    entries-put f p c.args.out.now c.requires.room.1 w.2 (number-signed (small start) w.0 c.number_of-number.ensures) (place-signed (small start) w.0 c.place_of-place.ensures)
     (to_z-of_z w64 c.weigh_entries-j.result.constant (record { sfits = c.struct_told-1.given.1.0.1 }) ∙ w.1)

@@ -53,13 +53,15 @@ slice_bounds-put_entries-start-in-loop-b c = omega (arith, room (goal.at.slice_b
 
 pub put_entries-requires : goal.put_entries-requires
 put_entries-requires c =
+    let later = (goal.at.put_entries-requires c).In-loop-b in
     let w = c.loop-b.invariant.1 in
-    record { accepted_netlist = c.requires.accepted_netlist; known = known-given c.work_out.ensures.0; room = (terms-short w c.requires.fills.0 (omega arith) c.term_count.ensures.0, written-part w (result_size (f (goal.at.put_entries-requires c).In-loop-b)) (length-result (f (goal.at.put_entries-requires c).In-loop-b)) c.requires.fills.1 (omega arith)) }
+    record { accepted_netlist = c.requires.accepted_netlist; known = known-given c.work_out.ensures.0; room = (terms-short w c.requires.fills.0 (omega arith) c.term_count.ensures.0, written-part w (result_size (f later)) (length-result (f later)) c.requires.fills.1 (omega arith)) }
 
 pub overflow_add-to : goal.overflow_add-to
 overflow_add-to c = record { fits = omega (arith, small (goal.at.overflow_add-to c).In-loop-b, c.loop-b.invariant.0) }
 
 pub loop-b-preserved : goal.loop-b-preserved
 loop-b-preserved c =
+    let later = (goal.at.loop-b-preserved c).In-loop-b in
     let i = c.loop-b.invariant in
-    (i.0, written-more i.1 (result_size (f (goal.at.loop-b-preserved c).In-loop-b)) (length-result (f (goal.at.loop-b-preserved c).In-loop-b)) c.requires.fills.0 (omega arith) c.term_count.ensures.0 i.0 c.put_entries.ensures)
+    (i.0, written-more i.1 (result_size (f later)) (length-result (f later)) c.requires.fills.0 (omega arith) c.term_count.ensures.0 i.0 c.put_entries.ensures)

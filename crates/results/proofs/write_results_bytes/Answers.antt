@@ -50,13 +50,15 @@ slice_bounds-put_bytes-start-in-loop-k c = omega (arith, room (goal.at.slice_bou
 
 pub put_bytes-requires : goal.put_bytes-requires
 put_bytes-requires c =
+    let later = (goal.at.put_bytes-requires c).In-loop-k in
     let w = c.loop-k.invariant.1 in
-    record { accepted_netlist = c.requires.accepted_netlist; known = known-given c.work_out.ensures.0; room = (terms-short w c.requires.fills.0 (omega arith) c.term_count.ensures.0, written-part w (8 * result_size (f (goal.at.put_bytes-requires c).In-loop-k)) (length-bytes (f (goal.at.put_bytes-requires c).In-loop-k)) c.requires.fills.1 (omega arith)) }
+    record { accepted_netlist = c.requires.accepted_netlist; known = known-given c.work_out.ensures.0; room = (terms-short w c.requires.fills.0 (omega arith) c.term_count.ensures.0, written-part w (8 * result_size (f later)) (length-bytes (f later)) c.requires.fills.1 (omega arith)) }
 
 pub overflow_add-to : goal.overflow_add-to
 overflow_add-to c = record { fits = omega (arith, small (goal.at.overflow_add-to c).In-loop-k, c.loop-k.invariant.0) }
 
 pub loop-k-preserved : goal.loop-k-preserved
 loop-k-preserved c =
+    let later = (goal.at.loop-k-preserved c).In-loop-k in
     let i = c.loop-k.invariant in
-    (i.0, written-more i.1 (8 * result_size (f (goal.at.loop-k-preserved c).In-loop-k)) (length-bytes (f (goal.at.loop-k-preserved c).In-loop-k)) c.requires.fills.0 (omega arith) c.term_count.ensures.0 i.0 c.put_bytes.ensures)
+    (i.0, written-more i.1 (8 * result_size (f later)) (length-bytes (f later)) c.requires.fills.0 (omega arith) c.term_count.ensures.0 i.0 c.put_bytes.ensures)

@@ -54,20 +54,24 @@ bounds-choices-k c = (fits (goal.at.bounds-choices-k c).After-place_at-place).3
 
 pub signal-v-requires : goal.signal-v-requires
 signal-v-requires c =
+    let later = (goal.at.signal-v-requires c).After-place_at-place in
     let l = c.loop-i.invariant in
     let k = c.place_at-place.result.component in
     let h : cell_size * k + cell_size - cell_size * k ≡ cell_size = omega arith in
-    rw h (readable (place (goal.at.signal-v-requires c).After-place_at-place) l.planned.accepted c.loop-i-test.true l.found (room (goal.at.signal-v-requires c).After-place_at-place) c.requires.ready.small (fits (goal.at.signal-v-requires c).After-place_at-place).1 (simp (length-take, length-drop) (omega (arith, (fits (goal.at.signal-v-requires c).After-place_at-place).2))))
+    rw h (readable (place later) l.planned.accepted c.loop-i-test.true l.found (room later) c.requires.ready.small (fits later).1 (simp (length-take, length-drop) (omega (arith, (fits later).2))))
 
 pub bounds-signals-s : goal.bounds-signals-s
-bounds-signals-s c = let l = c.loop-i.invariant in omega (arith, signal-below (place (goal.at.bounds-signals-s c).After-place_at-place) l.planned.accepted c.loop-i-test.true, room (goal.at.bounds-signals-s c).After-place_at-place, l.found.long)
+bounds-signals-s c =
+    let later = (goal.at.bounds-signals-s c).After-place_at-place in
+    let l = c.loop-i.invariant in omega (arith, signal-below (place later) l.planned.accepted c.loop-i-test.true, room later, l.found.long)
 
 pub loop-i-preserved : goal.loop-i-preserved
 loop-i-preserved c =
+    let later = (goal.at.loop-i-preserved c).After-place_at-place in
     let l = c.loop-i.invariant in
     let k = c.place_at-place.result.component in
     let h : cell_size * k + cell_size - cell_size * k ≡ cell_size = omega arith in
-    record { planned = l.planned; found = turn (place (goal.at.loop-i-preserved c).After-place_at-place) l.planned.accepted c.loop-i-test.true l.found (room (goal.at.loop-i-preserved c).After-place_at-place) c.signal-v.result (rw h at c.signal-v.ensures) }
+    record { planned = l.planned; found = turn (place later) l.planned.accepted c.loop-i-test.true l.found (room later) c.signal-v.result (rw h at c.signal-v.ensures) }
 
 pub returns : goal.returns
 returns c =

@@ -56,46 +56,63 @@ is-kind c e = ap kind_of (sym c.kind.ensures ∙ e)
 
 pub returns-then-b-eq0 : goal.returns-then-b-eq0
 unfolding kind_of
-returns-then-b-eq0 c = lets (goal.at.returns-then-b-eq0 c).Start (is-kind (goal.at.returns-then-b-eq0 c).After-kind c.in-5.is) (out-join-none (fed (goal.at.returns-then-b-eq0 c).Start) (port_of c.args.p) c.if-b-eq0.true)
+returns-then-b-eq0 c =
+    let start = (goal.at.returns-then-b-eq0 c).Start in
+    lets start (is-kind (goal.at.returns-then-b-eq0 c).After-kind c.in-5.is) (out-join-none (fed start) (port_of c.args.p) c.if-b-eq0.true)
 
 pub returns-then-p-eq1 : goal.returns-then-p-eq1
 unfolding kind_of
 returns-then-p-eq1 c =
-    lets (goal.at.returns-then-p-eq1 c).Start (is-kind (goal.at.returns-then-p-eq1 c).After-kind c.in-6.is)
-    (subst (λ (m : ℕ). Out (goal.at.returns-then-p-eq1 c).Start switch (bit_and c.args.a m)) (sym c.mask-in-6.ensures) (out-switch-B (fed (goal.at.returns-then-p-eq1 c).Start) c.args.p c.if-p-eq1.true))
+    let start = (goal.at.returns-then-p-eq1 c).Start in
+    lets start (is-kind (goal.at.returns-then-p-eq1 c).After-kind c.in-6.is)
+    (subst (λ (m : ℕ). Out start switch (bit_and c.args.a m)) (sym c.mask-in-6.ensures) (out-switch-B (fed start) c.args.p c.if-p-eq1.true))
 
 pub returns-in-0 : goal.returns-in-0
 unfolding kind_of
-returns-in-0 c = lets (goal.at.returns-in-0 c).Start (is-kind (goal.at.returns-in-0 c).After-kind c.in-0.is) (subst (Out (goal.at.returns-in-0 c).Start source) (sym c.mask.ensures) (out-source (fed (goal.at.returns-in-0 c).Start) (port_of c.args.p)))
+returns-in-0 c =
+    let start = (goal.at.returns-in-0 c).Start in
+    lets start (is-kind (goal.at.returns-in-0 c).After-kind c.in-0.is) (subst (Out start source) (sym c.mask.ensures) (out-source (fed start) (port_of c.args.p)))
 
 pub returns-in-1 : goal.returns-in-1
 unfolding kind_of
-returns-in-1 c = lets (goal.at.returns-in-1 c).Start (is-kind (goal.at.returns-in-1 c).After-kind c.in-1.is) (out-sink (fed (goal.at.returns-in-1 c).Start) (port_of c.args.p))
+returns-in-1 c =
+    let start = (goal.at.returns-in-1 c).Start in
+    lets start (is-kind (goal.at.returns-in-1 c).After-kind c.in-1.is) (out-sink (fed start) (port_of c.args.p))
 
 pub returns-in-2 : goal.returns-in-2
 unfolding kind_of
-returns-in-2 c = lets (goal.at.returns-in-2 c).Start (is-kind (goal.at.returns-in-2 c).After-kind c.in-2.is) (out-queue (fed (goal.at.returns-in-2 c).Start) (port_of c.args.p) c.fill_set.ensures)
+returns-in-2 c =
+    let start = (goal.at.returns-in-2 c).Start in
+    lets start (is-kind (goal.at.returns-in-2 c).After-kind c.in-2.is) (out-queue (fed start) (port_of c.args.p) c.fill_set.ensures)
 
 pub returns-in-3 : goal.returns-in-3
 unfolding kind_of
-returns-in-3 c = lets (goal.at.returns-in-3 c).Start (is-kind (goal.at.returns-in-3 c).After-kind c.in-3.is) (out-function (fed (goal.at.returns-in-3 c).Start) (port_of c.args.p) c.mapped.ensures)
+returns-in-3 c =
+    let start = (goal.at.returns-in-3 c).Start in
+    lets start (is-kind (goal.at.returns-in-3 c).After-kind c.in-3.is) (out-function (fed start) (port_of c.args.p) c.mapped.ensures)
 
 pub returns-in-4 : goal.returns-in-4
 unfolding kind_of
 returns-in-4 c =
+    let start = (goal.at.returns-in-4 c).Start in
     let e = is-kind (goal.at.returns-in-4 c).After-kind c.in-4.is in
-    lets (goal.at.returns-in-4 c).Start e (out-fork (fed (goal.at.returns-in-4 c).Start) c.args.p c.requires.accepted_netlist.2 (output (goal.at.returns-in-4 c).Start e) c.mapped-in-4.ensures)
+    lets start e (out-fork (fed start) c.args.p c.requires.accepted_netlist.2 (output start e) c.mapped-in-4.ensures)
 
 pub returns-else-b-eq0 : goal.returns-else-b-eq0
 unfolding kind_of
-returns-else-b-eq0 c = lets (goal.at.returns-else-b-eq0 c).Start (is-kind (goal.at.returns-else-b-eq0 c).After-kind c.in-5.is) (out-join (fed (goal.at.returns-else-b-eq0 c).Start) (port_of c.args.p) (search rules) c.if-b-eq0.false c.mapped-in-5.ensures)
+returns-else-b-eq0 c =
+    let start = (goal.at.returns-else-b-eq0 c).Start in
+    lets start (is-kind (goal.at.returns-else-b-eq0 c).After-kind c.in-5.is) (out-join (fed start) (port_of c.args.p) (search rules) c.if-b-eq0.false c.mapped-in-5.ensures)
 
 pub returns-else-p-eq1 : goal.returns-else-p-eq1
 unfolding kind_of
 returns-else-p-eq1 c =
+    let start = (goal.at.returns-else-p-eq1 c).Start in
     let e = is-kind (goal.at.returns-else-p-eq1 c).After-kind c.in-6.is in
-    lets (goal.at.returns-else-p-eq1 c).Start e
-    (subst (λ (m : ℕ). Out (goal.at.returns-else-p-eq1 c).Start switch (bit_xor c.args.a (bit_and c.args.a m))) (sym c.mask-in-6.ensures) (out-switch-C (fed (goal.at.returns-else-p-eq1 c).Start) c.args.p (output (goal.at.returns-else-p-eq1 c).Start e) c.if-p-eq1.false))
+    lets start e
+    (subst (λ (m : ℕ). Out start switch (bit_xor c.args.a (bit_and c.args.a m))) (sym c.mask-in-6.ensures) (out-switch-C (fed start) c.args.p (output start e) c.if-p-eq1.false))
 
 pub returns-in_default : goal.returns-in_default
-returns-in_default c = lets (goal.at.returns-in_default c).Start (is-kind (goal.at.returns-in_default c).After-kind refl ∙ kind-rest _ c.in_default.in_default-own.rest) (out-merge (fed (goal.at.returns-in_default c).Start) (port_of c.args.p))
+returns-in_default c =
+    let start = (goal.at.returns-in_default c).Start in
+    lets start (is-kind (goal.at.returns-in_default c).After-kind refl ∙ kind-rest _ c.in_default.in_default-own.rest) (out-merge (fed start) (port_of c.args.p))

@@ -28,7 +28,9 @@ outputs c = subst (λ (n : ℕ). Outputs (kind_of n) c.first_output-first.result
 
 pub returns-then-kind-eq1 : goal.returns-then-kind-eq1
 unfolding kind_of
-returns-then-kind-eq1 c = pass-none (Output (goal.at.returns-then-kind-eq1 c).Start) c.requires.accepted_netlist.2 (no_output (kind (r (goal.at.returns-then-kind-eq1 c).Start)) (ap kind_of (sym c.kind-kind.ensures ∙ c.if-kind-eq1.true)))
+returns-then-kind-eq1 c =
+    let start = (goal.at.returns-then-kind-eq1 c).Start in
+    pass-none (Output start) c.requires.accepted_netlist.2 (no_output (kind (r start)) (ap kind_of (sym c.kind-kind.ensures ∙ c.if-kind-eq1.true)))
 
 pub returns-then-kind : goal.returns-then-kind
 returns-then-kind c =

@@ -74,10 +74,14 @@ passing c =
 
 pub let_out-more-requires : goal.let_out-more-requires
 unfolding port_of
-let_out-more-requires c = record { accepted_netlist = (c.requires.accepted_netlist.0, low (goal.at.let_out-more-requires c).Start, c.requires.turn.2); output = (c.requires.turn.3, few (goal.at.let_out-more-requires c).Start 0 (at-A (goal.at.let_out-more-requires c).After-wide), few (goal.at.let_out-more-requires c).Start 1 (at-B (goal.at.let_out-more-requires c).After-wide-2)) }
+let_out-more-requires c =
+    let start = (goal.at.let_out-more-requires c).Start in
+    record { accepted_netlist = (c.requires.accepted_netlist.0, low start, c.requires.turn.2); output = (c.requires.turn.3, few start 0 (at-A (goal.at.let_out-more-requires c).After-wide), few start 1 (at-B (goal.at.let_out-more-requires c).After-wide-2)) }
 
 pub add-requires : goal.add-requires
-add-requires c = (place (goal.at.add-requires c).Start c.args.p (at_p (goal.at.add-requires c).After-wide-x), list-short c.requires.accepted_netlist.0.facts c.requires.accepted_netlist.2, room_at (passing (goal.at.add-requires c).After-let_out-more) (at_p (goal.at.add-requires c).After-wide-x))
+add-requires c =
+    let later = (goal.at.add-requires c).After-wide-x in
+    (place (goal.at.add-requires c).Start c.args.p (at_p later), list-short c.requires.accepted_netlist.0.facts c.requires.accepted_netlist.2, room_at (passing (goal.at.add-requires c).After-let_out-more) (at_p later))
 
 pub returns : goal.returns
 returns c = passed-at (passing (goal.at.returns c).After-let_out-more) (at_p (goal.at.returns c).After-wide-x) c.add.ensures

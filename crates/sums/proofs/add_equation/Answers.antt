@@ -53,23 +53,31 @@ module _ (b : Start) where
     down-grown g p q = grown-add p (grown-neg b.args.m g (grown-is (negated b.args.m b.requires.small) (λ v l. refl) q))
 
 pub add_flow-requires-in-Two-2 : goal.add_flow-requires-in-Two-2
-add_flow-requires-in-Two-2 c = record { in_sums = (within (goal.at.add_flow-requires-in-Two-2 c).Start c.in-Two.is).within.1; near = second (goal.at.add_flow-requires-in-Two-2 c).Start 1 (2 ^ 62) (omega arith) (same-near c.in-Two.plus) c.add_flow-in-Two.ensures; small = down-near (goal.at.add_flow-requires-in-Two-2 c).Start }
+add_flow-requires-in-Two-2 c =
+    let start = (goal.at.add_flow-requires-in-Two-2 c).Start in
+    record { in_sums = (within start c.in-Two.is).within.1; near = second start 1 (2 ^ 62) (omega arith) (same-near c.in-Two.plus) c.add_flow-in-Two.ensures; small = down-near start }
 
 pub add_flow-requires-in-Three-2 : goal.add_flow-requires-in-Three-2
-add_flow-requires-in-Three-2 c = record { in_sums = (within (goal.at.add_flow-requires-in-Three-2 c).Start c.in-Three.is).within.1; near = second (goal.at.add_flow-requires-in-Three-2 c).Start 1 (2 ^ 62) (omega arith) (same-near c.in-Three.plus) c.add_flow-in-Three.ensures; small = down-near (goal.at.add_flow-requires-in-Three-2 c).Start }
+add_flow-requires-in-Three-2 c =
+    let start = (goal.at.add_flow-requires-in-Three-2 c).Start in
+    record { in_sums = (within start c.in-Three.is).within.1; near = second start 1 (2 ^ 62) (omega arith) (same-near c.in-Three.plus) c.add_flow-in-Three.ensures; small = down-near start }
 
 pub add_flow-requires-in-Three-3 : goal.add_flow-requires-in-Three-3
 add_flow-requires-in-Three-3 c =
-    let near = second (goal.at.add_flow-requires-in-Three-3 c).Start 1 (2 ^ 60 + 2 ^ 34) (omega arith) (same-near c.in-Three.plus) c.add_flow-in-Three.ensures in
-    record { in_sums = (within (goal.at.add_flow-requires-in-Three-3 c).Start c.in-Three.is).within.2; near = near-grown (2 ^ 60 + 2 ^ 34) (2 ^ 34) 1 (2 ^ 62) near (down-near (goal.at.add_flow-requires-in-Three-3 c).Start) (same-near c.in-Three.minus) (omega arith) c.add_flow-in-Three-2.ensures; small = down-near (goal.at.add_flow-requires-in-Three-3 c).Start }
+    let start = (goal.at.add_flow-requires-in-Three-3 c).Start in
+    let near = second start 1 (2 ^ 60 + 2 ^ 34) (omega arith) (same-near c.in-Three.plus) c.add_flow-in-Three.ensures in
+    record { in_sums = (within start c.in-Three.is).within.2; near = near-grown (2 ^ 60 + 2 ^ 34) (2 ^ 34) 1 (2 ^ 62) near (down-near start) (same-near c.in-Three.minus) (omega arith) c.add_flow-in-Three-2.ensures; small = down-near start }
 
 pub add_mapped-requires : goal.add_mapped-requires
 add_mapped-requires c =
-    let w = (within (goal.at.add_mapped-requires c).Start c.in-Mapped.is).within in
-    record { in_table = (c.requires.in_table.0, w.1, w.2); near = second (goal.at.add_mapped-requires c).Start 1 (2 ^ 61) (omega arith) (same-near c.in-Mapped.plus) c.add_flow-in-Mapped.ensures; small = down-near (goal.at.add_mapped-requires c).Start }
+    let start = (goal.at.add_mapped-requires c).Start in
+    let w = (within start c.in-Mapped.is).within in
+    record { in_table = (c.requires.in_table.0, w.1, w.2); near = second start 1 (2 ^ 61) (omega arith) (same-near c.in-Mapped.plus) c.add_flow-in-Mapped.ensures; small = down-near start }
 
 pub add_all-requires-in-All : goal.add_all-requires-in-All
-add_all-requires-in-All c = record { in_table = (c.requires.in_table.0, (within (goal.at.add_all-requires-in-All c).Start c.in-All.is).within.1); near = second (goal.at.add_all-requires-in-All c).Start 8 (2 ^ 61) (omega arith) (λ v. all_near c.args.colours c.in-All.plus v c.requires.in_table.0) c.add_all.ensures; small = down-near (goal.at.add_all-requires-in-All c).Start }
+add_all-requires-in-All c =
+    let start = (goal.at.add_all-requires-in-All c).Start in
+    record { in_table = (c.requires.in_table.0, (within start c.in-All.is).within.1); near = second start 8 (2 ^ 61) (omega arith) (λ v. all_near c.args.colours c.in-All.plus v c.requires.in_table.0) c.add_all.ensures; small = down-near start }
 
 pub returns-in-Missing : goal.returns-in-Missing
 unfolding factor_of
@@ -77,20 +85,30 @@ returns-in-Missing c = equation-grown (goal.at.returns-in-Missing c).Start c.in-
 
 pub returns-in-One : goal.returns-in-One
 unfolding factor_of
-returns-in-One c = equation-grown (goal.at.returns-in-One c).Start c.in-One.is (up-grown (goal.at.returns-in-One c).Start c.add_flow.ensures)
+returns-in-One c =
+    let start = (goal.at.returns-in-One c).Start in
+    equation-grown start c.in-One.is (up-grown start c.add_flow.ensures)
 
 pub returns-in-Two : goal.returns-in-Two
 unfolding factor_of
-returns-in-Two c = equation-grown (goal.at.returns-in-Two c).Start c.in-Two.is (down-grown (goal.at.returns-in-Two c).Start (same c.in-Two.minus) (up-grown (goal.at.returns-in-Two c).Start c.add_flow-in-Two.ensures) c.add_flow-in-Two-2.ensures)
+returns-in-Two c =
+    let start = (goal.at.returns-in-Two c).Start in
+    equation-grown start c.in-Two.is (down-grown start (same c.in-Two.minus) (up-grown start c.add_flow-in-Two.ensures) c.add_flow-in-Two-2.ensures)
 
 pub returns-in-Three : goal.returns-in-Three
 unfolding factor_of
-returns-in-Three c = equation-grown (goal.at.returns-in-Three c).Start c.in-Three.is (down-grown (goal.at.returns-in-Three c).Start (same c.in-Three.also) (down-grown (goal.at.returns-in-Three c).Start (same c.in-Three.minus) (up-grown (goal.at.returns-in-Three c).Start c.add_flow-in-Three.ensures) c.add_flow-in-Three-2.ensures) c.add_flow-in-Three-3.ensures)
+returns-in-Three c =
+    let start = (goal.at.returns-in-Three c).Start in
+    equation-grown start c.in-Three.is (down-grown start (same c.in-Three.also) (down-grown start (same c.in-Three.minus) (up-grown start c.add_flow-in-Three.ensures) c.add_flow-in-Three-2.ensures) c.add_flow-in-Three-3.ensures)
 
 pub returns-in-Mapped : goal.returns-in-Mapped
 unfolding factor_of
-returns-in-Mapped c = equation-grown (goal.at.returns-in-Mapped c).Start c.in-Mapped.is (down-grown (goal.at.returns-in-Mapped c).Start (mapped_factor c.args.table.now c.args.colours c.in-Mapped.from c.in-Mapped.component c.in-Mapped.second c.in-Mapped.to) (up-grown (goal.at.returns-in-Mapped c).Start c.add_flow-in-Mapped.ensures) c.add_mapped.ensures)
+returns-in-Mapped c =
+    let start = (goal.at.returns-in-Mapped c).Start in
+    equation-grown start c.in-Mapped.is (down-grown start (mapped_factor c.args.table.now c.args.colours c.in-Mapped.from c.in-Mapped.component c.in-Mapped.second c.in-Mapped.to) (up-grown start c.add_flow-in-Mapped.ensures) c.add_mapped.ensures)
 
 pub returns-in-All : goal.returns-in-All
 unfolding factor_of
-returns-in-All c = equation-grown (goal.at.returns-in-All c).Start c.in-All.is (down-grown (goal.at.returns-in-All c).Start (all_factor c.args.colours c.in-All.minus) (up-grown (goal.at.returns-in-All c).Start c.add_all.ensures) c.add_all-in-All.ensures)
+returns-in-All c =
+    let start = (goal.at.returns-in-All c).Start in
+    equation-grown start c.in-All.is (down-grown start (all_factor c.args.colours c.in-All.minus) (up-grown start c.add_all.ensures) c.add_all-in-All.ensures)
