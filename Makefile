@@ -9,7 +9,7 @@ PROGRAM = target/rust/release/panel
 TO = "$(DESTDIR)$(PREFIX)"
 
 # Folders are among them, so that a file that is gone counts too. The edits that must fail are no part of the library, nor is what rt makes.
-CRATES := crates.txt $(shell find crates \( -name must-fail -o -name out \) -prune -o -print)
+CRATES := crates.txt $(shell find crates -mindepth 2 \( -name must-fail -o -name out \) -prune -o -print)
 PANEL := $(shell find .cargo Cargo.toml Cargo.lock panel reference -type f 2>/dev/null)
 
 .DELETE_ON_ERROR:

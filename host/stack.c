@@ -193,7 +193,7 @@ int main(void)
         printf("%-16s %12zu %12zu %12zu\n", calls[i].name, loop[i], deep[i], deepest[i]);
         within = within && loop[i] < limit && deep[i] < limit && deepest[i] < limit;
     }
-    printf("a call of the walk takes %zu, and it goes %d deep in the chain, %d in the circle\n", (deepest[0] - deep[0]) / (CIRCLE_DEEP - CHAIN_DEEP),
+    printf("a call of the walk takes %zu, and it goes %d deep in the chain, %d in the circle\n", (deepest[0] - deep[0] + (CIRCLE_DEEP - CHAIN_DEEP) / 2) / (CIRCLE_DEEP - CHAIN_DEEP),
            CHAIN_DEEP, CIRCLE_DEEP);
     printf(within ? "each below %d, each check and ceiling below %d\n" : "above %d, or a check or ceiling above %d\n", LIMIT, CHECK_LIMIT);
     return within ? 0 : 1;

@@ -91,7 +91,7 @@ fn refusal_place(r: Refusal) -> usize
     }
 }
 
-// 01's number of a verdict.
+// The document's number of a verdict.
 pub fn number_of(v: Verdict) -> u32
     ensures { result ≡ number_of v }
 {
