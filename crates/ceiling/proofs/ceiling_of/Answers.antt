@@ -59,7 +59,7 @@ module _ (c : Else-u-eq-MOST_ENTRIES) where
 -- what is owed to the constant
 module _ (c : After-struct_told-1) where
   owed-is : c.judge_entry-a.result.owed ≡ owed (netlist_of c.args.size c.args.table.now) c.args.proposal.now
-  owed-is = owed-there (owed (netlist_of c.args.size c.args.table.now) c.args.proposal.now) c.judge_entry-a.ensures.answer.4 c.if-a-eq0.false
+  owed-is = owed-there (owed (netlist_of c.args.size c.args.table.now) c.args.proposal.now) c.judge_entry-a.ensures.answer.4 (λ q. omega arith)
 
   constant-is : to_z w64 (of_z w64 c.judge_entry-a.result.judgement.constant) ≡ constant (netlist_of c.args.size c.args.table.now) c.args.proposal.now
   constant-is =
