@@ -8,7 +8,7 @@ STAGED = $(STAGE)/lib/libfabric.a $(STAGE)/include/fabric.h $(STAGE)/lib/pkgconf
 PROGRAM = target/rust/release/panel
 TO = "$(DESTDIR)$(PREFIX)"
 
-# Folders are among them, so that a file that is gone counts too. The edits that must fail are no part of the library, nor is what rt makes.
+# The folders in a crate are among them, so that a file that is gone counts too. The edits that must fail are no part of the library, nor is what rt makes.
 CRATES := crates.txt $(shell find crates -mindepth 2 \( -name must-fail -o -name out \) -prune -o -print)
 PANEL := $(shell find .cargo Cargo.toml Cargo.lock panel reference -type f 2>/dev/null)
 
