@@ -7,7 +7,11 @@ use native.Mathlib.Omega.{arith}
 use lib.Dec.{ltb}
 use lib.ListN.{length, get_or, take, drop}
 use Rattle.digits.proofs.Bools.{and_both}
-use Rattle.component.specs.Kind.{Kind, source, sink, queue, function, fork, join, switch, merge, Port, A, B, C, Use, input, output, unused, port_use}
+use Rattle.component.specs.declared.kinds.Kind.{Kind}
+use Rattle.component.specs.declared.kinds.Kind.TheVariants.{Source, Sink, Queue, Function, Fork, Join, Switch, Merge}
+use Rattle.component.specs.declared.kinds.Port.{Port}
+use Rattle.component.specs.declared.kinds.Port.TheVariants.{A, B, C}
+use Rattle.component.specs.Kind.{Use, input, output, unused, port_use}
 use Rattle.component.specs.Row.{kind, port, first_map, second_map, masked}
 use Rattle.wiring.specs.Signals.{offer_a, offer_b, take_b, take_c}
 use Rattle.netlist.specs.Netlist.{Netlist, row_of}
@@ -71,20 +75,20 @@ module _ (f : Netlist) (ends order state choices : List ℕ) (s : CanStep f ends
       go unused o = refl
 
   -- the source's colour is emitted, be it held or chosen
-  source-balanced : kind row ≡ source → (d : ℕ) → moved f state choices (port row A) ≡ suc d → masked row d ≡ true
+  source-balanced : kind row ≡ Source → (d : ℕ) → moved f state choices (port row A) ≡ suc d → masked row d ≡ true
   unfolding rule port_use
   source-balanced e d q =
       let g = v (2 * port row A + 1) in
       let a = get_or (cell state k) 0 0 in
       let b = get_or choices k 0 in
       let o = or_else a b in
-      let m : moved f state choices (port row A) ≡ when g o = through-port source e A in
+      let m : moved f state choices (port row A) ≡ when g o = through-port Source e A in
       let p : 0 < when g o = omega arith in
       let i : o ≡ suc d = sym (when-is g o p) ∙ sym m ∙ q in
       (and_both (ltb d 8) (masked row d)
       (subst (λ (b : ℕ). emitted row b ≡ true) i (either-emitted row a b (source-held f state s.good k h e) (source-choice f choices s.allowed k h e)))).1
 
-  queue-balanced : kind row ≡ queue → Balanced queue row (moved f state choices) (counts state k) (counts (next f state choices) k)
+  queue-balanced : kind row ≡ Queue → Balanced Queue row (moved f state choices) (counts state k) (counts (next f state choices) k)
   unfolding next_at cell_next moved Balanced
   queue-balanced e d = rw after (count_next ma mb cs front d)
     where
@@ -116,20 +120,20 @@ module _ (f : Netlist) (ends order state choices : List ℕ) (s : CanStep f ends
 
   by_kind : (d : Kind) → kind row ≡ d → Balanced d row (moved f state choices) (counts state k) (counts (next f state choices) k)
   unfolding Balanced rule port_use
-  by_kind source e = source-balanced e
-  by_kind sink e = tt
-  by_kind queue e = queue-balanced e
-  by_kind function e = rw (through-port function e A, through-port function e B) (mapped-one (first_map row) (near row v take_b) (near row v offer_a))
-  by_kind fork e = (
-    rw (through-port fork e A, through-port fork e B) (mapped-two (first_map row) (near row v take_b) (near row v take_c) (near row v offer_a)),
-    rw (through-port fork e A, through-port fork e C) (mapped-swap (second_map row) (near row v take_b) (near row v take_c) (near row v offer_a)),
+  by_kind Source e = source-balanced e
+  by_kind Sink e = tt
+  by_kind Queue e = queue-balanced e
+  by_kind Function e = rw (through-port Function e A, through-port Function e B) (mapped-one (first_map row) (near row v take_b) (near row v offer_a))
+  by_kind Fork e = (
+    rw (through-port Fork e A, through-port Fork e B) (mapped-two (first_map row) (near row v take_b) (near row v take_c) (near row v offer_a)),
+    rw (through-port Fork e A, through-port Fork e C) (mapped-swap (second_map row) (near row v take_b) (near row v take_c) (near row v offer_a)),
   )
-  by_kind join e = (
-    rw (through-port join e A, through-port join e C) (mapped-swap (first_map row) (offered (near row v offer_b)) (near row v take_c) (near row v offer_a)),
-    rw (through-port join e A, through-port join e B) (join-both (near row v offer_a) (near row v offer_b) (near row v take_c)),
+  by_kind Join e = (
+    rw (through-port Join e A, through-port Join e C) (mapped-swap (first_map row) (offered (near row v offer_b)) (near row v take_c) (near row v offer_a)),
+    rw (through-port Join e A, through-port Join e B) (join-both (near row v offer_a) (near row v offer_b) (near row v take_c)),
   )
-  by_kind switch e = rw (through-port switch e A, through-port switch e B, through-port switch e C) (switch-both row (near row v offer_a) (near row v take_b) (near row v take_c))
-  by_kind merge e = rw (through-port merge e A, through-port merge e B, through-port merge e C) (merge-one (picks_b (get_or (cell state k) 0 0) (get_or choices k 0) (near row v offer_a) (near row v offer_b)) (near row v offer_a) (near row v offer_b) (near row v take_c))
+  by_kind Switch e = rw (through-port Switch e A, through-port Switch e B, through-port Switch e C) (switch-both row (near row v offer_a) (near row v take_b) (near row v take_c))
+  by_kind Merge e = rw (through-port Merge e A, through-port Merge e B, through-port Merge e C) (merge-one (picks_b (get_or (cell state k) 0 0) (get_or choices k 0) (near row v offer_a) (near row v offer_b)) (near row v offer_a) (near row v offer_b) (near row v take_c))
 
   pub balanced : Balanced (kind (row_of f k)) (row_of f k) (moved f state choices) (counts state k) (counts (next f state choices) k)
   balanced = by_kind (kind row) refl

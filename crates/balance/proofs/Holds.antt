@@ -9,7 +9,11 @@ use lib.Dec.{ltb, eqb, eqb-zero-suc, eqb-suc-suc}
 use lib.IntN.{+ℤ_comm, pos, ◌+ℤ◌, ◌-ℤ◌}
 use borrow.Author.Tests.{ltb-true, eqb-true, eq-eqb, ne_eqb, not-true}
 use Rattle.digits.proofs.Bools.{and_both}
-use Rattle.component.specs.Kind.{Kind, source, sink, queue, function, fork, join, switch, merge, Port, A, B, C, is_queue}
+use Rattle.component.specs.declared.kinds.Kind.{Kind}
+use Rattle.component.specs.declared.kinds.Kind.TheVariants.{Source, Sink, Queue, Function, Fork, Join, Switch, Merge}
+use Rattle.component.specs.declared.kinds.Port.{Port}
+use Rattle.component.specs.declared.kinds.Port.TheVariants.{A, B, C}
+use Rattle.component.specs.Kind.{is_queue}
 use Rattle.component.specs.Row.{kind, port, first_map, second_map, masked}
 use Rattle.netlist.specs.Netlist.{Netlist, row_of}
 use Rattle.cells.specs.Counts.{counts}
@@ -73,29 +77,29 @@ module _ (f : Netlist) (t : ℕ → ℕ) (r : List ℕ) (inside : (p : Port) →
   maps p map e q = amounts-even (ap (λ (s : ℕ). bit (eqb s (suc e))) q) (one p e) (to A map e)
 
   module _ (n m : ℕ → ℕ) (i : ℕ) where
-    unmasked : Balanced source r t n m → masked r i ≡ false → bit (eqb (t (port r A)) (suc i)) ≡ 0
+    unmasked : Balanced Source r t n m → masked r i ≡ false → bit (eqb (t (port r A)) (suc i)) ≡ 0
     unfolding Balanced
     unmasked b x = rw (ne_eqb (t (port r A)) (suc i) (λ q. true≢false (sym (b i q) ∙ x)))
 
-    merged : Balanced merge r t n m → bit (eqb (t (port r C)) (suc i)) ≡ bit (eqb (t (port r B)) (suc i)) + bit (eqb (t (port r A)) (suc i))
+    merged : Balanced Merge r t n m → bit (eqb (t (port r C)) (suc i)) ≡ bit (eqb (t (port r B)) (suc i)) + bit (eqb (t (port r A)) (suc i))
     unfolding Balanced
     merged (inl e) = rw (e.0, e.1, eqb-zero-suc) (omega arith)
     merged (inr e) = rw (e.0, e.1, eqb-zero-suc) (omega arith)
 
     by_kind : (k : Kind) → Balanced k r t n m → has_index k r f.colours i ≡ true → cond (is_queue k) (pos (m i) -ℤ pos (n i)) (pos 0) +ℤ total f t (side k r i) ≡ pos 0
     unfolding Balanced has_index is_queue side
-    by_kind source b x = still (subst (Amounts f t _) (unmasked b (not-true (masked r i) (and_both (ltb i f.colours) (not (masked r i)) x).1)) (one A i))
-    by_kind sink b x = absurd (true≢false (sym x))
-    by_kind queue b x = grown-less (m i) (n i) (b i) (one B i) (one A i)
-    by_kind function b x = still (maps B (first_map r) i b)
-    by_kind fork b x = still (amounts-cond (ltb i 8) (maps B (first_map r) i b.0) (maps C (second_map r) (i - 8) b.1))
-    by_kind join b x = still (amounts-cond (eqb i 8) (amounts-even b.1 (any A) (any B)) (maps C (first_map r) i b.0))
-    by_kind switch b x =
+    by_kind Source b x = still (subst (Amounts f t _) (unmasked b (not-true (masked r i) (and_both (ltb i f.colours) (not (masked r i)) x).1)) (one A i))
+    by_kind Sink b x = absurd (true≢false (sym x))
+    by_kind Queue b x = grown-less (m i) (n i) (b i) (one B i) (one A i)
+    by_kind Function b x = still (maps B (first_map r) i b)
+    by_kind Fork b x = still (amounts-cond (ltb i 8) (maps B (first_map r) i b.0) (maps C (second_map r) (i - 8) b.1))
+    by_kind Join b x = still (amounts-cond (eqb i 8) (amounts-even b.1 (any A) (any B)) (maps C (first_map r) i b.0))
+    by_kind Switch b x =
         still
         (amounts-cond (ltb i 8)
         (amounts-even (rw b.0 (share r i (t (port r A))).0) (one B i) (amounts-when (masked r i) (one A i)))
         (amounts-even (rw b.1 (share r (i - 8) (t (port r A))).1) (one C (i - 8)) (amounts-when (not (masked r (i - 8))) (one A (i - 8)))))
-    by_kind merge b x = still (amounts-even refl (amounts-less (merged b) (one C i) (one A i)) (one B i))
+    by_kind Merge b x = still (amounts-even refl (amounts-less (merged b) (one C i) (one A i)) (one B i))
 
 pub holds : (f : Netlist) (ends order state choices : List ℕ) → CanStep f ends order state choices → Holds f (transfer (moved f state choices)) (counts state) (counts (next f state choices))
 unfolding flow_change count_change factor has_equation total

@@ -1,6 +1,8 @@
 -- A file of proposals holds up to 64 blocks, each a 16-bit count of terms, high byte first, and its terms. Blocks are counted from 0.
-use Rattle.std.specs.Prelude.{◌≡◌, Bool, not, ◌||◌, List, [], ◌++◌, ℕ, zero, suc, ◌+◌, ◌*◌, ◌≤◌, ◌<◌, ltb, eqb, length, get_or, take, drop}
+use Rattle.std.specs.Prelude.{◌≡◌, Bool, cond, not, Result, Ok, Err, ◌||◌, List, [], ◌++◌, ℕ, zero, suc, ◌+◌, ◌*◌, ◌≤◌, ◌<◌, ltb, eqb, length, get_or, take, drop}
 use Rattle.digits.specs.Least.{least}
+use Rattle.refusals.specs.declared.Refusal.{Refusal}
+use Rattle.refusals.specs.declared.Refusal.TheVariants.{BadBlocks}
 use Rattle.flows.specs.Terms.{most_terms}
 
 abbrev pub most_blocks : ℕ
@@ -45,6 +47,10 @@ not_filled file = not (eqb (block_start file (blocks file)) (length file))
 unfoldable pub bad_blocks : List ℕ → Bool
 bad_blocks file = too_many file || some_overlong file || not_filled file
 
+-- 33, or how many blocks fill the file
+abbrev pub blocks_found : List ℕ → Result ℕ Refusal
+blocks_found file = cond (bad_blocks file) (Err BadBlocks) (Ok (blocks file))
+
 -- in file order: what g makes of each of the first n blocks, one after the other
 unfoldable pub each_block : {X : Type 0} → (List ℕ → List X) → List ℕ → ℕ → List X
 each_block g file zero = []
@@ -55,3 +61,17 @@ pub record Fills (file : List ℕ) (n : ℕ) : Type 0 where
   pub few : n ≤ most_blocks
   pub filled : block_start file n ≡ length file
   pub short : (b : ℕ) → b < n → term_count file (block_start file b) ≤ most_terms
+
+-- a file that begins with a whole block,
+pub record StartsWhole (file : List ℕ) : Type 0 where
+  pub short : term_count file 0 ≤ most_terms
+  pub inside : 2 + 4 * term_count file 0 ≤ length file
+
+-- its terms, and what follows them
+pub record IsSplit (file terms after : List ℕ) : Type 0 where
+  pub first : terms ≡ take (4 * term_count file 0) (drop 2 file)
+  pub rest : after ≡ drop (2 + 4 * term_count file 0) file
+
+-- what is left of a file behind its first b blocks
+abbrev pub behind : List ℕ → ℕ → List ℕ
+behind file b = drop (block_start file b) file

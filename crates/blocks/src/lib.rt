@@ -1,46 +1,55 @@
 // The blocks of a file of proposals.
 #![tactic(auto)]
 
-ghost use Rattle.std.specs.Prelude.{◌≡◌, cond, suc, ◌+◌, ◌≤◌, ◌<◌, length};
-ghost use Rattle.blocks.specs.Blocks.{most_blocks, term_count, blocks, bad_blocks};
+ghost use Rattle.std.specs.Prelude.{◌≡◌, ◌+◌, ◌*◌, ◌≤◌, ◌<◌, length, IfNone, IfSome, Result};
+ghost use Rattle.blocks.specs.Blocks.{term_count, blocks_found, StartsWhole, IsSplit};
 
-use digits::wide;
-use sums::MOST_TERMS;
+use refusals::Refusal;
 
-// The most blocks of a file.
+const MOST_TERMS: usize = 4096;
+
+/// The most blocks of a file.
 pub const MOST_BLOCKS: usize = 64;
 
-// The count of terms that stands at byte i, high byte first.
+/// The count of terms that stands at byte `i`, high byte first.
+#[tactic(auto, unfolding(crate::specs::Blocks::term_count))]
 pub fn term_count(file: &[u8], i: usize) -> usize
     requires { i + 2 ≤ length file.now }
     ensures { (result ≡ term_count file.now i) × (result < 65536) }
 {
-    256 * wide(file[i]) + wide(file[i + 1])
+    usize::from(u16::from_be_bytes([file[i], file[i + 1]]))
 }
 
-// How many blocks fill the file, or 65 for a file that 33 refuses.
-pub fn blocks_in(file: &[u8]) -> usize
-    ensures { result ≡ cond (bad_blocks file.now) (suc most_blocks) (blocks file.now) }
+/// The terms of a file's first block, and what follows them; none where their count is over 4,096 or the file ends before they do.
+pub fn split_block(file: &[u8]) -> Option<(&[u8], &[u8])>
+    ensures none { IfNone result (StartsWhole file.now → ⊥) }
+    ensures some { IfSome result (λ parts. StartsWhole file.now × IsSplit file.now parts.0.now parts.1.now) }
 {
-    let n = file.len();
-    let mut at: usize = 0;
-    let mut b: usize = 0;
-    while at < n {
-        if b == MOST_BLOCKS {
-            return MOST_BLOCKS + 1;
-        }
-        if n - at < 2 {
-            return MOST_BLOCKS + 1;
-        }
-        let count = term_count(file, at);
-        if MOST_TERMS < count {
-            return MOST_BLOCKS + 1;
-        }
-        if n - at - 2 < 4 * count {
-            return MOST_BLOCKS + 1;
-        }
-        at += 2 + 4 * count;
-        b += 1;
+    if file.len() < 2 {
+        return None;
     }
-    b
+    let count = term_count(file, 0);
+    if MOST_TERMS < count {
+        return None;
+    }
+    file[2..].split_at_checked(4 * count)
+}
+
+/// How many blocks fill the file, or 33.
+pub fn blocks_in(file: &[u8]) -> Result<usize, Refusal>
+    ensures { result ≡ blocks_found file.now }
+{
+    let mut rest = file;
+    let mut blocks = 0;
+    while !rest.is_empty() {
+        if blocks == MOST_BLOCKS {
+            return Err(Refusal::BadBlocks);
+        }
+        let Some((_, after)) = split_block(rest) else {
+            return Err(Refusal::BadBlocks);
+        };
+        rest = after;
+        blocks += 1;
+    }
+    Ok(blocks)
 }

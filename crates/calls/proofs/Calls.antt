@@ -6,8 +6,8 @@ use native.Mathlib.Nat.{div-add-mod}
 use native.Mathlib.Omega.{arith}
 use lib.ListN.{length}
 use Rattle.refusals.specs.Refusals.{kept}
-use Rattle.refusals.specs.declared.Verdict.{Verdict}
-use Rattle.refusals.specs.declared.Verdict.TheVariants.{Accepted, Refused}
+use Rattle.std.proofs.Common.{Err, Ok, Result}
+use Rattle.refusals.specs.declared.Refusal.{Refusal}
 use Rattle.netlist.specs.Accepted.{AcceptedFabric}
 use Rattle.reader.specs.File.{netlist_in}
 use Rattle.reader.proofs.Opened.{facts}
@@ -25,18 +25,18 @@ use Rattle.calls.specs.Calls.{Call, start, step, run, state_after, state_after_a
 
 -- a property of states, of an accepted file: it holds at start, and a step under allowed choices keeps it in a good state
 module _ (file : List ℕ) (P : List ℕ → Type 0)
-    (at-start : (s : List ℕ) → start_verdict file (length s) ≡ Accepted → P (started (netlist_in file) s))
+    (at-start : (s : List ℕ) → start_verdict file (length s) ≡ Ok tt → P (started (netlist_in file) s))
     (at-step : (s c : List ℕ) → Good (netlist_in file) s → Allowed (netlist_in file) c → P s → P (next (netlist_in file) s c)) where
   Kept : List ℕ → Type 0
   Kept s = Good (netlist_in file) s × P s
 
   -- a verdict that a call came to, and the bytes that it leaves
-  after-verdict : (v : Verdict) (new old : List ℕ) → (v ≡ Accepted → Kept new) → Kept old → Kept (kept v new old)
-  after-verdict Accepted new old n o = n refl
-  after-verdict (Refused r) new old n o = o
+  after-verdict : (v : Result Unit Refusal) (new old : List ℕ) → (v ≡ Ok tt → Kept new) → Kept old → Kept (kept v new old)
+  after-verdict (Ok tt) new old n o = n refl
+  after-verdict (Err r) new old n o = o
 
   module _ (ends order : List ℕ) (a : AcceptedFabric (netlist_in file) ends order) where
-    begun : (s : List ℕ) → start_verdict file (length s) ≡ Accepted → Kept (started (netlist_in file) s)
+    begun : (s : List ℕ) → start_verdict file (length s) ≡ Ok tt → Kept (started (netlist_in file) s)
     unfolding Kept
     begun s e = (good_start (netlist_in file) ends order a s (started-file file (length s) e).1, at-start s e)
 
@@ -45,7 +45,7 @@ module _ (file : List ℕ) (P : List ℕ → Type 0)
     stepped s c g w b = (good-step (netlist_in file) ends order s c (record { accepted = a; good = g; allowed = w }), at-step s c g w b.1)
 
     -- the first m steps of a run
-    ran : (c s : List ℕ) → run_verdict file s c ≡ Accepted → (m : ℕ) → (netlist_in file).components * m ≤ length c → Kept s → Kept (after_steps (netlist_in file) m c s)
+    ran : (c s : List ℕ) → run_verdict file s c ≡ Ok tt → (m : ℕ) → (netlist_in file).components * m ≤ length c → Kept s → Kept (after_steps (netlist_in file) m c s)
     unfolding Kept
     ran c s e m l b = steps-keep (netlist_in file) ends order a Kept stepped m c s l (run-allowed file s c e) b.0 b
 
@@ -61,7 +61,7 @@ module _ (file : List ℕ) (P : List ℕ → Type 0)
     list-keeps (c ∷ cs) s b = list-keeps cs (state_after file c s) (call-keeps c s b)
 
   -- it holds, and the state is good, after every list of calls after an accepted start
-  pub calls-keep : (state : List ℕ) → start_verdict file (length state) ≡ Accepted → (cs : List Call)
+  pub calls-keep : (state : List ℕ) → start_verdict file (length state) ≡ Ok tt → (cs : List Call)
       → Good (netlist_in file) (state_after_all file cs (state_after_start file state)) × P (state_after_all file cs (state_after_start file state))
   unfolding Kept
   calls-keep state e cs =
@@ -69,7 +69,7 @@ module _ (file : List ℕ) (P : List ℕ → Type 0)
       subst (λ (s : List ℕ). Kept (state_after_all file cs s)) (sym (start-writes file state e)) (list-keeps x.0 x.1 x.2 cs (started (netlist_in file) state) (begun x.0 x.1 x.2 state e))
 
   -- and in each state inside a further run, after the first m of its steps
-  pub runs-keep : (state : List ℕ) → start_verdict file (length state) ≡ Accepted → (cs : List Call) (choices : List ℕ) → run_verdict file (state_after_all file cs (state_after_start file state)) choices ≡ Accepted
+  pub runs-keep : (state : List ℕ) → start_verdict file (length state) ≡ Ok tt → (cs : List Call) (choices : List ℕ) → run_verdict file (state_after_all file cs (state_after_start file state)) choices ≡ Ok tt
       → (m : ℕ) → (netlist_in file).components * m ≤ length choices
       → Good (netlist_in file) (after_steps (netlist_in file) m choices (state_after_all file cs (state_after_start file state))) × P (after_steps (netlist_in file) m choices (state_after_all file cs (state_after_start file state)))
   unfolding Kept

@@ -1,6 +1,7 @@
 -- The list of calls on a state.
 use Rattle.std.specs.Prelude.{List, [], ◌∷◌, ℕ, length}
-use Rattle.refusals.specs.declared.Verdict.{Verdict}
+use Rattle.std.specs.Prelude.{Result}
+use Rattle.refusals.specs.declared.Refusal.{Refusal}
 use Rattle.stepping.specs.Calls.{start_verdict, state_after_start, step_verdict, state_after_step, run_verdict, state_after_run}
 
 -- start; step with choices and space for its moves; run with choices: of any bytes and any length
@@ -20,7 +21,7 @@ unfoldable pub state_after_all : List ℕ → List Call → List ℕ → List �
 state_after_all file [] state = state
 state_after_all file (c ∷ cs) state = state_after_all file cs (state_after file c state)
 
-abbrev pub verdict_on : List ℕ → Call → List ℕ → Verdict
+abbrev pub verdict_on : List ℕ → Call → List ℕ → Result Unit Refusal
 verdict_on file start state = start_verdict file (length state)
 verdict_on file (step choices space) state = step_verdict file state choices space
 verdict_on file (run choices) state = run_verdict file state choices

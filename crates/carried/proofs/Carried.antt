@@ -1,7 +1,7 @@
 -- Laws of the byte sum that pack carries. Assumes nothing.
 use mathlib.Core.Path.{◌≡◌, ap, ap₂, sym, subst, ◌∙◌}
 use Prim.Native.Nat.{ℕ, ◌+◌, ◌*◌, ◌%◌, ◌≤◌}
-use native.Mathlib.Nat.{zero-add, mod-add-mod, le_of_eq}
+use native.Mathlib.Nat.{mod-add-mod}
 use native.Mathlib.Omega.{arith}
 use mathlib.Core.List.{List, [], ◌∷◌, ◌++◌, append_assoc, append-nil}
 use lib.ListN.{length, take, drop, length-append}
@@ -19,22 +19,14 @@ unfolding carried_sum
 carried_none o = ap (λ (l : List ℕ). sum l % 256) (ap (λ (l : List ℕ). take check_place o ++ l) (slice_empty header_size o) ∙ append-nil (take check_place o))
 
 -- ---- header bytes 0 to 2, laid
--- the sum starts at 0
-pub from_zero : (s x : ℕ) → s ≡ (0 + x) % 256 → s ≡ x % 256
-from_zero s x e = e ∙ ap (λ (y : ℕ). y % 256) (zero-add x)
-
-pub front-laid : (h o o₁ : List ℕ) (s : ℕ) → length h ≡ check_place → s ≡ sum (take check_place h) % 256 → o₁ ≡ paste o 0 h check_place
-    → (o₁ ≡ h ++ drop check_place o) × (s ≡ carried_sum o₁ 0)
-front-laid h o o₁ s three es e =
-    let all : take check_place h ≡ h = take_all check_place h (le_of_eq three) in
-    let put : o₁ ≡ h ++ drop check_place o = e ∙ ap (λ (l : List ℕ). l ++ drop check_place o) all in
-    let same : take check_place h ≡ take check_place o₁ = rw (all, put) (sym (take_at h (drop check_place o) check_place three)) in
-    (put, es ∙ ap (λ (l : List ℕ). sum l % 256) same ∙ sym (carried_none o₁))
+pub front_counted : (h rest : List ℕ) → length h ≡ check_place → sum h % 256 ≡ carried_sum (h ++ rest) 0
+front_counted h rest three = sym (carried_none (h ++ rest) ∙ ap (λ (l : List ℕ). sum l % 256) (take_at h rest check_place three))
 
 -- ---- a record more
-module _ (o : List ℕ) (k : ℕ) (b : List ℕ) (h : file_size k + record_size ≤ length o) (l : record_size ≤ length b) where
-  laid_more : laid (paste o (file_size k) b record_size) (k + 1) ≡ laid o k ++ take record_size b
+module _ (o : List ℕ) (k : ℕ) (b : List ℕ) (h : file_size k + record_size ≤ length o) (l : length b ≡ record_size) where
+  laid_more : laid (paste o (file_size k) b record_size) (k + 1) ≡ laid o k ++ b
   laid_more =
+      let all : take record_size b ≡ b = take_all record_size b (omega arith) in
       let long : length (take (file_size k) o) ≡ file_size k = length-take-le (file_size k) o (omega arith) in
       let e : file_size (k + 1) ≡ file_size k + record_size = omega arith in
       let front-stays : take check_place (paste o (file_size k) b record_size) ≡ take check_place o =
@@ -43,15 +35,13 @@ module _ (o : List ℕ) (k : ℕ) (b : List ℕ) (h : file_size k + record_size 
         take-append-le check_place (take (file_size k) o) (take record_size b) (omega arith),
       )
       (take-take check_place (file_size k) o (omega arith)) in
-      let rest-longer : drop header_size (take (file_size (k + 1)) (paste o (file_size k) b record_size)) ≡ drop header_size (take (file_size k) o) ++ take record_size b =
-      rw (e, take-paste o (file_size k) b record_size (omega arith) l) (drop-append-le header_size (take (file_size k) o) (take record_size b) (omega arith)) in
-      ap₂ ◌++◌ front-stays rest-longer ∙ sym (append_assoc (take check_place o) (drop header_size (take (file_size k) o)) (take record_size b))
+      let rest-longer : drop header_size (take (file_size (k + 1)) (paste o (file_size k) b record_size)) ≡ drop header_size (take (file_size k) o) ++ b =
+      rw (e, take-paste o (file_size k) b record_size (omega arith) (omega arith), all) (drop-append-le header_size (take (file_size k) o) b (omega arith)) in
+      ap₂ ◌++◌ front-stays rest-longer ∙ sym (append_assoc (take check_place o) (drop header_size (take (file_size k) o)) b)
 
-  pub carried-more : (s r : ℕ) → s ≡ carried_sum o k → r ≡ (s + sum (take record_size b)) % 256 → r ≡ carried_sum (paste o (file_size k) b record_size) (k + 1)
+  pub carried_more : (carried_sum o k + sum b) % 256 ≡ carried_sum (paste o (file_size k) b record_size) (k + 1)
   unfolding carried_sum
-  carried-more s r es er =
-      er ∙ ap (λ (x : ℕ). (x + sum (take record_size b)) % 256) es ∙ mod-add-mod (sum (laid o k)) 256 (sum (take record_size b))
-      ∙ ap (λ (x : ℕ). x % 256) (sym (sum-append (laid o k) (take record_size b)) ∙ ap sum (sym laid_more))
+  carried_more = rw (laid_more, sum-append (laid o k) b) (mod-add-mod (sum (laid o k)) 256 (sum b))
 
 -- ---- the header: bytes 0 to 2, and the check byte
 pub header-long : (front : List ℕ) (check : ℕ) → length front ≡ check_place → length (front ++ check ∷ []) ≡ header_size

@@ -11,16 +11,19 @@ ghost use Rattle.carried.specs.Carried.{check_place, carried_sum};
 
 use record::{HEADER_SIZE, RECORD_SIZE};
 
-// The check byte's place in the header.
+// The memory and the sum carried stay two parameters: a struct that holds both needs at each of its functions a clause that the
+// loan stays the same and one on the count of records, eight clauses in place of five.
+
+/// The check byte's place in the header.
 pub const CHECK_PLACE: usize = 3;
 
-// Lays header bytes 0 to 2, and hands back the sum carried.
-pub fn put_header(out: &mut [u8], h: [u8; CHECK_PLACE]) -> u8
+/// Lays header bytes 0 to 2, and hands back the sum carried.
+pub fn put_header(out: &mut [u8], header: [u8; CHECK_PLACE]) -> u8
     requires { header_size ≤ length out.old }
-    ensures { (out.new ≡ h ++ drop check_place out.old) × (result ≡ carried_sum out.new 0) }
+    ensures { (out.new ≡ header ++ drop check_place out.old) × (result ≡ carried_sum out.new 0) }
 {
-    let carried = digits::add_bytes(0, &h, CHECK_PLACE);
-    digits::copy(&h, CHECK_PLACE, &mut *out, 0);
+    let carried = digits::byte_sum(&header);
+    out[..CHECK_PLACE].copy_from_slice(&header);
     carried
 }
 
@@ -29,26 +32,25 @@ fn put_record(table: &[u8], k: usize, out: &mut [u8], carried: u8) -> u8
     requires { (row_size * k + row_size ≤ length table.now) × (file_size k + record_size ≤ length out.old) × (carried ≡ carried_sum out.old k) }
     ensures { (out.new ≡ paste out.old (file_size k) (record_bytes (row table.now k)) record_size) × (result ≡ carried_sum out.new (k + 1)) }
 {
-    let b = record::record_bytes(record::row_at(table, k));
-    digits::copy(&b, RECORD_SIZE, &mut *out, HEADER_SIZE + RECORD_SIZE * k);
-    digits::add_bytes(carried, &b, RECORD_SIZE)
+    let record = record::record_bytes(record::row_at(table, k));
+    let at = HEADER_SIZE + RECORD_SIZE * k;
+    out[at..at + RECORD_SIZE].copy_from_slice(&record);
+    digits::add_bytes(carried, &record)
 }
 
-// Lays the records of n rows behind the header, and hands back the sum carried.
+/// Lays the records of `n` rows behind the header, and hands back the sum carried.
 pub fn put_records(table: &[u8], n: usize, out: &mut [u8], carried: u8) -> u8
     requires { (row_size * n ≤ length table.now) × (file_size n ≤ length out.old) × (carried ≡ carried_sum out.old 0) }
     ensures { (out.new ≡ take header_size out.old ++ records table.now n ++ drop (file_size n) out.old) × (result ≡ carried_sum out.new n) }
 {
     let mut so_far = carried;
-    let mut k: usize = 0;
-    while k < n {
+    for k in 0..n {
         so_far = put_record(table, k, &mut *out, so_far);
-        k += 1;
     }
     so_far
 }
 
-// Lays the check byte, which brings the sum carried to 0.
+/// Lays the check byte, which brings the sum carried to 0.
 pub fn put_check(out: &mut [u8], carried: u8)
     requires { header_size ≤ length out.old }
     ensures { out.new ≡ take check_place out.old ++ negated carried ∷ drop header_size out.old }

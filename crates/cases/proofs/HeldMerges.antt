@@ -10,7 +10,7 @@ use Rattle.digits.specs.UpTo.{up_to}
 use Rattle.order.specs.Graph.{any, walks, has_circle}
 use Rattle.order.specs.Values.{val}
 use Rattle.refusals.specs.Refusals.{first_refusal}
-use Rattle.refusals.specs.declared.Verdict.TheVariants.{Accepted}
+use Rattle.std.proofs.Common.{Ok}
 use Rattle.record.specs.Record.{record_row, record_pad, record_bytes}
 use Rattle.record.specs.Table.{open_table, records}
 use Rattle.component.specs.Kind.{kind_of, port_of, port_use, uses_first_map, uses_second_map, uses_mask, is_source, is_queue}
@@ -45,7 +45,7 @@ all-holding = refl
 abbrev waiting : List ℕ
 waiting = chosen 1 2 1 0
 
-accepted : first_refusal (file_tests merged_file) ≡ Accepted
+accepted : first_refusal (file_tests merged_file) ≡ Ok tt
 unfolding merged_table merged_file packed_file header_bytes header_fields records record_bytes record_row record_pad open_table first_bad_record first_unmatched end_of dependence depends_on near_of least count any walks
     has_circle row_ok kind_of port_of port_use uses_first_map uses_second_map uses_mask is_source is_queue
 accepted = refl

@@ -16,9 +16,12 @@ use Rattle.wiring.specs.Signals.{end_of}
 use Rattle.netlist.specs.Netlist.{Netlist, netlist, sized}
 use Rattle.netlist.specs.Accepted.{AcceptedFabric, AcceptedNetlist}
 use Rattle.reach.specs.Rounds.{passed, round, rounds, reachable, set_byte}
-use Rattle.reach.specs.Known.{Known}
-use Rattle.reader.specs.Reading.{ReadOf}
-use Rattle.reader.specs.declared.Reading.{Reading}
+use Rattle.reach.specs.Known.{SetBytes}
+use Rattle.reader.specs.Reading.{reading}
+use Rattle.reader.specs.View.{size_of}
+use Rattle.std.proofs.Common.{Ok}
+use Rattle.netlist.specs.declared.Fabric.{Fabric}
+use Rattle.plan.specs.declared.Place.{Place}
 use Rattle.fabric.specs.PackedFile.{header_bytes, packed_file}
 use Rattle.cells.specs.Choices.{good_choice, choice_at, bad_choice}
 use Rattle.cells.specs.Start.{started}
@@ -43,7 +46,7 @@ use Rattle.inside.specs.Inside.{Inside}
 use Rattle.inside.proofs.Inside.{inside-start}
 use Rattle.cases.specs.CreditLoop.{credit_table, credit_file}
 use Rattle.cases.specs.EightKinds.{eight_table, eight_file}
-use Rattle.cases.proofs.CreditLoop.{credit-accepted}
+use Rattle.cases.proofs.CreditLoop.{read-accepted, credit-accepted}
 use Rattle.cases.proofs.EightKinds.{eight-reads}
 
 -- what an accepted fabric gives under choices that none refuses
@@ -56,8 +59,8 @@ module _ (f : Netlist) (ends order : List ℕ) (a : AcceptedFabric f ends order)
   steps-met = record { accepted = a; good = good_start f ends order a state room; allowed = no-bad-choice f choices long none }
 
   -- with a plan laid out in any memory that is long enough
-  pub ready-met : (memory : List ℕ) → 12 * f.channels ≤ length memory →
-      Ready f (up_to (12 * f.channels) (planned f order) ++ drop (12 * f.channels) memory) (started f state) choices
+  pub ready-met : (memory : List Place) → 2 * f.channels ≤ length memory →
+      Ready f (up_to (2 * f.channels) (planned f order) ++ drop (2 * f.channels) memory) (started f state) choices
   ready-met memory l = steps-ready f ends order (started f state) choices steps-met (is-planned a memory _ l refl)
 
   -- with the signals in memory
@@ -81,18 +84,18 @@ credit-choices : bad_choice (netlist 1 6 6 (open_table credit_file 6)) credit_ch
 unfolding bad_choice choice_at good_choice least credit_file credit_table packed_file header_bytes records record_bytes record_row open_table kind_of
 credit-choices = refl
 
-pub credit-steps : (before after ends order : List ℕ) (answer : Reading) → ReadOf credit_file before after answer ends order → (state : List ℕ) → 384 ≤ length state
-    → CanStep (netlist 1 6 6 (open_table credit_file 6)) ends order (started (netlist 1 6 6 (open_table credit_file 6)) state) credit_choices
-credit-steps before after ends order answer r state l =
-    steps-met (netlist 1 6 6 (open_table credit_file 6)) ends order (credit-accepted before after ends order answer r) credit_choices refl credit-choices state l
+pub credit-steps : (fabric : Fabric) → size_of (Ok fabric) ≡ reading credit_file → fabric.netlist.table.bytes.now ≡ open_table credit_file fabric.netlist.size.components → (state : List ℕ) → 384 ≤ length state
+    → CanStep (netlist 1 6 6 (open_table credit_file 6)) fabric.ends.now fabric.order.now (started (netlist 1 6 6 (open_table credit_file 6)) state) credit_choices
+credit-steps fabric answer table state l =
+    steps-met (netlist 1 6 6 (open_table credit_file 6)) fabric.ends.now fabric.order.now (credit-accepted fabric answer table) credit_choices refl credit-choices state l
 
 -- its colour sets in lent bytes: colour 0 on each channel
 credit-masks : up_to 6 (set_byte (netlist 1 6 6 (open_table credit_file 6))) ≡ replicate 6 128
 unfolding credit_file credit_table packed_file header_bytes records record_bytes record_row open_table kind_of port_of port_use end_of least passed round rounds reachable mask_bits set_byte up_to
 credit-masks = refl
 
-pub credit-known : Known (netlist 1 6 6 (open_table credit_file 6)) (replicate 6 128)
-credit-known = record { given = λ _. record { long = omega arith; at = λ x l. sym (ap (λ (s : List ℕ). get_or s x 0) credit-masks) ∙ up_to-at (set_byte (netlist 1 6 6 (open_table credit_file 6))) 0 6 x l } }
+pub credit-sets : SetBytes (netlist 1 6 6 (open_table credit_file 6)) (replicate 6 128)
+credit-sets = record { long = omega arith; at = λ x l. sym (ap (λ (s : List ℕ). get_or s x 0) credit-masks) ∙ up_to-at (set_byte (netlist 1 6 6 (open_table credit_file 6))) 0 6 x l }
 
 -- ---- all eight kinds
 abbrev eight_choices : List ℕ
@@ -102,7 +105,7 @@ eight-choices : bad_choice (netlist 2 10 9 (open_table eight_file 9)) eight_choi
 unfolding bad_choice choice_at good_choice least eight_file eight_table packed_file header_bytes records record_bytes record_row open_table kind_of
 eight-choices = refl
 
-pub eight-steps : (before after ends order : List ℕ) (answer : Reading) → ReadOf eight_file before after answer ends order → (state : List ℕ) → 576 ≤ length state
-    → CanStep (netlist 2 10 9 (open_table eight_file 9)) ends order (started (netlist 2 10 9 (open_table eight_file 9)) state) eight_choices
-eight-steps before after ends order answer r state l =
-    steps-met (netlist 2 10 9 (open_table eight_file 9)) ends order (r.facts (sized 2 10 9) eight-reads) eight_choices refl eight-choices state l
+pub eight-steps : (fabric : Fabric) → size_of (Ok fabric) ≡ reading eight_file → fabric.netlist.table.bytes.now ≡ open_table eight_file fabric.netlist.size.components → (state : List ℕ) → 576 ≤ length state
+    → CanStep (netlist 2 10 9 (open_table eight_file 9)) fabric.ends.now fabric.order.now (started (netlist 2 10 9 (open_table eight_file 9)) state) eight_choices
+eight-steps fabric answer table state l =
+    steps-met (netlist 2 10 9 (open_table eight_file 9)) fabric.ends.now fabric.order.now (read-accepted eight_file fabric answer table (sized 2 10 9) eight-reads) eight_choices refl eight-choices state l

@@ -13,7 +13,7 @@ use Rattle.order.specs.Graph.{Circular, any, walks, has_circle}
 use Rattle.order.specs.Values.{val}
 use Rattle.refusals.specs.Refusals.{first_refusal}
 use Rattle.refusals.specs.declared.Refusal.TheVariants.{Circle}
-use Rattle.refusals.specs.declared.Verdict.TheVariants.{Accepted, Refused}
+use Rattle.std.proofs.Common.{Err, Ok}
 use Rattle.record.specs.Record.{record_row, record_pad, record_bytes}
 use Rattle.record.specs.Table.{open_table, records}
 use Rattle.component.specs.Kind.{kind_of, port_of, port_use, uses_first_map, uses_second_map, uses_mask, is_source, is_queue}
@@ -72,7 +72,7 @@ credit-read = (refl, refl)
 abbrev forked : List ℕ
 forked = packed_file 1 4 fork_into_join 4
 
-forked-refused : (first_refusal (take 7 (file_tests forked)) ≡ Accepted) × (first_refusal (file_tests forked) ≡ Refused Circle)
+forked-refused : (first_refusal (take 7 (file_tests forked)) ≡ Ok tt) × (first_refusal (file_tests forked) ≡ Err Circle)
 unfolding fork_into_join packed_file header_bytes header_fields records record_bytes record_row record_pad open_table first_bad_record first_unmatched end_of dependence depends_on
     near_of least count any walks has_circle row_ok kind_of port_of port_use uses_first_map uses_second_map uses_mask is_source is_queue
 forked-refused = (refl, refl)
@@ -84,7 +84,7 @@ forked-circular = (circle_exactly forked forked-refused.0).0 forked-refused.1
 abbrev once : List ℕ
 once = 1 ∷ 0 ∷ 0 ∷ 0 ∷ 1 ∷ 0 ∷ []
 
-credit-file : first_refusal (file_tests credit_file) ≡ Accepted
+credit-file : first_refusal (file_tests credit_file) ≡ Ok tt
 credit-file = (accepted-parts credit_file credit-reads).0
 
 credit-size : ((netlist_in credit_file).components ≡ 6) × ((netlist_in credit_file).channels ≡ 6)
@@ -102,10 +102,10 @@ module _ (state : List ℕ) (room : 384 ≤ length state) where
   good : Good f (started f state)
   good = let x = facts credit_file credit-file in good_start f x.0 x.1 x.2 state (omega (arith, credit-size.0))
 
-  pub credit-step : step_verdict credit_file (started f state) once 6 ≡ Accepted
+  pub credit-step : step_verdict credit_file (started f state) once 6 ≡ Ok tt
   credit-step = step_accepted credit_file (started f state) once 6 credit-file good (no-bad-choice f once (sym credit-size.0) credit-choices.0) (omega (arith, credit-size.1))
 
-  pub credit-run : run_verdict credit_file (started f state) (once ++ once) ≡ Accepted
+  pub credit-run : run_verdict credit_file (started f state) (once ++ once) ≡ Ok tt
   credit-run = run_accepted credit_file (started f state) (once ++ once) credit-file good (ap (λ (n : ℕ). 12 % n) credit-size.0) (no-bad-step f (once ++ once) credit-choices.1)
 
 -- from start, after a step, a refused run and a run, each channel moves in a further step, and in the second step of a further run: so colour 0 is in the set of channel 4
@@ -115,7 +115,7 @@ calls = step once 6 ∷ run (1 ∷ []) ∷ run (once ++ once) ∷ []
 abbrev after : List ℕ
 after = state_after_all credit_file calls (state_after_start credit_file (replicate 384 7))
 
-credit-moves : (start_verdict credit_file 384 ≡ Accepted) × (step_verdict credit_file after once 6 ≡ Accepted)
+credit-moves : (start_verdict credit_file 384 ≡ Ok tt) × (step_verdict credit_file after once 6 ≡ Ok tt)
     × (get_or (moves_after_step credit_file after once (replicate 6 9)) 4 0 ≡ 1)
 unfolding credit_table credit_file packed_file header_bytes header_fields records record_bytes record_row record_pad open_table first_bad_row first_bad_record first_unmatched end_of dependence depends_on near_of least count
     any walks has_circle row_ok kind_of port_of port_use uses_first_map uses_second_map uses_mask is_source is_queue netlist_in start_verdict state_after_start step_verdict state_after_step moves_after_step run_verdict
@@ -126,7 +126,7 @@ credit-moves = (refl, refl, refl)
 pub credit-inside : Reaches (netlist_in credit_file) 4 0
 credit-inside = moves_inside credit_file (replicate 384 7) credit-moves.0 calls once (replicate 6 9) credit-moves.1 4 0 (omega (arith, credit-size.1)) credit-moves.2
 
-credit-runs : (run_verdict credit_file after (once ++ once) ≡ Accepted)
+credit-runs : (run_verdict credit_file after (once ++ once) ≡ Ok tt)
     × (moved (netlist_in credit_file) (after_steps (netlist_in credit_file) 1 (once ++ once) after) (step_choices (netlist_in credit_file) (once ++ once) 1) 4 ≡ 1) × (12 / (netlist_in credit_file).components ≡ 2)
 unfolding credit_table credit_file packed_file header_bytes header_fields records record_bytes record_row record_pad open_table first_bad_row first_bad_record first_unmatched end_of dependence depends_on near_of least count
     any walks has_circle row_ok kind_of port_of port_use uses_first_map uses_second_map uses_mask is_source is_queue netlist_in start_verdict state_after_start step_verdict state_after_step run_verdict

@@ -1,6 +1,6 @@
 -- Ceilings, as one table of inputs and expected answers.
 use Rattle.std.specs.Prelude.{List, [], ◌∷◌, ◌++◌, ℕ, ◌+◌}
-use Rattle.refusals.specs.Refusals.{number_of, place_of}
+use Rattle.refusals.specs.Refusals.{outcome_number, outcome_place}
 use Rattle.fabric.specs.PackedFile.{packed_file}
 use Rattle.ceiling.specs.Ceiling.{ceiling_verdict, ceiling_value}
 use Rattle.cases.specs.Rows.{line, term}
@@ -39,7 +39,7 @@ pub data Answer : Type 0 where
   answer : ℕ → ℕ → ℕ → Answer
 
 abbrev pub answer_to : Input → Answer
-answer_to (place file p q d) = answer (number_of (ceiling_verdict file p q d)) (place_of (ceiling_verdict file p q d)) (ceiling_value file p q d)
+answer_to (place file p q d) = answer (outcome_number (ceiling_verdict file p q d)) (outcome_place (ceiling_verdict file p q d)) (ceiling_value file p q d)
 
 unfoldable pub ceilings : List (Case Input Answer)
 ceilings =

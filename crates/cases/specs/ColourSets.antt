@@ -1,7 +1,7 @@
 -- Colours that can reach a channel, and what check says by them, as two tables of inputs and expected answers.
 use Rattle.std.specs.Prelude.{cond, List, [], ◌∷◌, ◌++◌, ℕ, ◌*◌, eqb, take, replicate, ℤ, pos}
 use Rattle.digits.specs.UpTo.{up_to}
-use Rattle.refusals.specs.Refusals.{number_of, place_of}
+use Rattle.refusals.specs.Refusals.{outcome_number, outcome_place}
 use Rattle.reader.specs.File.{netlist_in}
 use Rattle.fabric.specs.PackedFile.{packed_file}
 use Rattle.stepping.specs.Calls.{state_after_start, state_after_step, moves_after_step}
@@ -62,9 +62,9 @@ moved_all state [] = []
 moved_all state (c ∷ cs) = moves_after_step back_file state c (replicate 3 9) ∷ moved_all (state_after_step back_file state c 3) cs
 
 abbrev pub answer_to : Input → Answer
-answer_to (sets file n) = masks (number_of (reach_verdict file n)) (place_of (reach_verdict file n)) (sets_after_reach file (replicate n 9))
+answer_to (sets file n) = masks (outcome_number (reach_verdict file n)) (outcome_place (reach_verdict file n)) (sets_after_reach file (replicate n 9))
 answer_to (terms file p) =
-    answer (number_of (check_verdict file p (8 * (netlist_in file).components))) (place_of (check_verdict file p (8 * (netlist_in file).components))) (check_constant file p (8 * (netlist_in file).components))
+    answer (outcome_number (check_verdict file p (8 * (netlist_in file).components))) (outcome_place (check_verdict file p (8 * (netlist_in file).components))) (check_constant file p (8 * (netlist_in file).components))
     (weights_after_check file p (replicate (8 * (netlist_in file).components) (pos 9)))
 answer_to (lists file p) = prints (listing file p)
 answer_to (steps choices) = moved (moved_all (state_after_start back_file (replicate 192 7)) choices)

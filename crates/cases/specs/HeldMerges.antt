@@ -1,6 +1,6 @@
 -- Merges that hold their pick, as one table of inputs and expected answers.
 use Rattle.std.specs.Prelude.{List, [], ◌∷◌, ◌++◌, ℕ, get_or, replicate, set}
-use Rattle.refusals.specs.Refusals.{number_of, place_of}
+use Rattle.refusals.specs.Refusals.{outcome_number, outcome_place}
 use Rattle.fabric.specs.PackedFile.{packed_file}
 use Rattle.stepping.specs.Calls.{state_after_start, step_verdict, state_after_step, moves_after_step}
 use Rattle.cases.specs.Rows.{row₂}
@@ -34,7 +34,7 @@ held state = get_or state 0 0 ∷ get_or state 64 0 ∷ get_or state 128 0 ∷ g
 
 abbrev stepped : List ℕ → List ℕ → Answer
 stepped state choices =
-    answer (number_of (step_verdict merged_file state choices 3)) (place_of (step_verdict merged_file state choices 3)) (moves_after_step merged_file state choices (replicate 3 9)) (held (state_after_step merged_file state choices 3))
+    answer (outcome_number (step_verdict merged_file state choices 3)) (outcome_place (step_verdict merged_file state choices 3)) (moves_after_step merged_file state choices (replicate 3 9)) (held (state_after_step merged_file state choices 3))
 
 abbrev stepped_all : List ℕ → List (List ℕ) → Answer
 stepped_all state [] = stepped state []

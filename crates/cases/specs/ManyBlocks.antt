@@ -1,6 +1,6 @@
 -- Files of blocks for the credit loop, as one table of inputs and expected answers.
 use Rattle.std.specs.Prelude.{List, [], ◌∷◌, ◌++◌, ℕ, ◌/◌, replicate, ℤ, pos}
-use Rattle.refusals.specs.Refusals.{number_of, place_of}
+use Rattle.refusals.specs.Refusals.{outcome_number, outcome_place}
 use Rattle.many.specs.Many.{many_verdict, table_after_many, bytes_after_many}
 use Rattle.cases.specs.Table.{Case, ◌gives◌}
 use Rattle.cases.specs.CreditLoop.{credit_file}
@@ -17,8 +17,8 @@ pub data Answer : Type 0 where
   memory : ℕ → ℕ → List ℕ → Answer
 
 abbrev pub answer_to : Input → Answer
-answer_to (entries file n) = table (number_of (many_verdict credit_file file n)) (place_of (many_verdict credit_file file n)) (table_after_many credit_file file (replicate n (pos 7)))
-answer_to (bytes file n) = memory (number_of (many_verdict credit_file file (n / 8))) (place_of (many_verdict credit_file file (n / 8))) (bytes_after_many credit_file file (replicate n 7))
+answer_to (entries file n) = table (outcome_number (many_verdict credit_file file n)) (outcome_place (many_verdict credit_file file n)) (table_after_many credit_file file (replicate n (pos 7)))
+answer_to (bytes file n) = memory (outcome_number (many_verdict credit_file file (n / 8))) (outcome_place (many_verdict credit_file file (n / 8))) (bytes_after_many credit_file file (replicate n 7))
 
 -- a block of n terms, n below 256
 abbrev block : ℕ → List ℕ → List ℕ

@@ -1,7 +1,7 @@
 -- The byte sum that pack carries, as one table of inputs and expected answers.
 use Rattle.std.specs.Prelude.{ℕ, ◌+◌, List, [], ◌∷◌, ◌++◌, replicate}
 use Rattle.digits.specs.UpTo.{up_to}
-use Rattle.refusals.specs.Refusals.{number_of}
+use Rattle.refusals.specs.Refusals.{outcome_number}
 use Rattle.carried.specs.Carried.{carried_sum}
 use Rattle.fabric.specs.Calls.{packed, packed_into}
 use Rattle.cases.specs.Rows.{row₂}
@@ -35,7 +35,7 @@ pub data Answer : Type 0 where
 
 abbrev pub answer_to : Input → Answer
 answer_to (carried file n) = sums (up_to (n + 1) (carried_sum file))
-answer_to (pack channels space) = memory (number_of (packed 2 channels filled_table space)) (packed_into 2 channels filled_table (replicate space 255))
+answer_to (pack channels space) = memory (outcome_number (packed 2 channels filled_table space)) (packed_into 2 channels filled_table (replicate space 255))
 
 unfoldable pub running : List (Case Input Answer)
 running =

@@ -1,7 +1,8 @@
 -- The cases marked * under 'The credit loop', as one table of inputs and expected answers.
 use Rattle.std.specs.Prelude.{List, [], ◌∷◌, ◌++◌, ℕ, get_or, replicate, set, ℤ, pos}
-use Rattle.refusals.specs.Refusals.{number_of, place_of}
-use Rattle.refusals.specs.declared.Verdict.{Verdict}
+use Rattle.refusals.specs.Refusals.{outcome_number, outcome_place}
+use Rattle.std.specs.Prelude.{Result}
+use Rattle.refusals.specs.declared.Refusal.{Refusal}
 use Rattle.fabric.specs.Calls.{packed}
 use Rattle.cells.specs.Counts.{counts}
 use Rattle.stepping.specs.Calls.{state_after_start, step_verdict, state_after_step, moves_after_step}
@@ -25,8 +26,8 @@ pub data Answer : Type 0 where
   answer : ℕ → ℕ → List ℤ → List ℕ → List ℕ → Answer
   prints : List ℕ → Answer
 
-abbrev saying : Verdict → List ℤ → List ℕ → List ℕ → Answer
-saying v = answer (number_of v) (place_of v)
+abbrev saying : (Result Unit Refusal) → List ℤ → List ℕ → List ℕ → Answer
+saying v = answer (outcome_number v) (outcome_place v)
 
 -- what check leaves in 48 entries, and in front of them K
 abbrev checked : List ℕ → Answer

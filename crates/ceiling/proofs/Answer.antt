@@ -1,66 +1,48 @@
 -- What each way through `ceiling` comes to. Assumes nothing.
+use Rattle.std.proofs.Common.{Result, Ok, Err, Some, None}
 use mathlib.Core.Path.{◌≡◌, refl, ap, ap₂, sym, ◌∙◌}
 use mathlib.Core.Bool.{Bool, true, false, cond, not, ◌&&◌, ◌||◌, or-true, or-false, true≢false}
 use mathlib.Core.List.{List}
-use Prim.Native.Nat.{ℕ, ◌+◌, ◌*◌, ◌/◌, min, ◌<◌}
+use Prim.Native.Nat.{ℕ, ◌+◌, ◌*◌, ◌/◌, min, ◌≤◌, ◌<◌}
 use native.Mathlib.Omega.{arith}
-use lib.Dec.{leb, ltb, eqb}
-use lib.ListN.{take}
+use lib.Dec.{ltb, eqb}
 use lib.IntN.{ℤ, pos, ◌+ℤ◌}
-use borrow.Author.Tests.{ltb-true, leb-true, leb-false, lt-ltb, le-ltb, eqb-false, eq-eqb, ne_eqb}
+use borrow.Author.Tests.{ltb-true, lt-ltb, le-ltb, eqb-false, eq-eqb, ne_eqb}
 use Rattle.integers.specs.Sign.{above_zero}
 use Rattle.refusals.specs.Refusals.{first_refusal}
 use Rattle.refusals.specs.declared.Refusal.{Refusal}
 use Rattle.refusals.specs.declared.Refusal.TheVariants.{NotAQueue, WeightNotPositive}
-use Rattle.refusals.specs.declared.Verdict.{Verdict}
-use Rattle.refusals.specs.declared.Verdict.TheVariants.{Accepted, Refused}
 use Rattle.refusals.proofs.Refusals.{and_then, refusal-append, cond-accepted, then-accepted}
-use Rattle.record.specs.Sizes.{row_size}
+use Rattle.record.specs.Table.{open_table}
 use Rattle.component.specs.Kind.{is_queue}
-use Rattle.component.specs.Row.{kind_number, kind, capacity}
-use Rattle.component.specs.Limits.{most_entries}
-use Rattle.component.proofs.ByKind.{row-queue}
+use Rattle.component.specs.Row.{kind, capacity}
 use Rattle.netlist.specs.Netlist.{Netlist, netlist_of, row_of}
 use Rattle.netlist.specs.Accepted.{AcceptedNetlist}
 use Rattle.netlist.specs.declared.Size.{Size}
-use Rattle.reader.specs.File.{netlist_in}
-use Rattle.reader.specs.Reading.{reading}
-use Rattle.reader.specs.declared.Reading.TheVariants.{Rejected}
-use Rattle.reader.proofs.Opened.{after-file, rest-refused, Opened}
+use Rattle.reader.specs.File.{header_fields, size_in, netlist_in, file_tests}
+use Rattle.reader.specs.Reading.{read_as, reading}
+use Rattle.reader.proofs.Opened.{after-file}
 use Rattle.flows.specs.Flows.{weight, entry, constant}
-use Rattle.flows.specs.Verdict.{judge_tests, judged, constant_by}
+use Rattle.flows.specs.Verdict.{giving, judge_tests, judged}
 use Rattle.flows.proofs.Weights.{entry-weight}
 use Rattle.headroom.specs.Headroom.{owed, headroom}
-use Rattle.judgement.specs.Judged.{weight_by}
-use Rattle.ceiling.specs.Ceiling.{ceiling, no_place, not_above, place_tests, ceiling_tests, placed, ceiling_by, ceiling_verdict, ceiling_value}
+use Rattle.judgement.specs.Judged.{weight_at}
+use Rattle.ceiling.specs.Ceiling.{ceiling, no_place, not_above, place_tests, ceiling_tests, placed, ceiling_verdict}
 
 -- ---- on a fabric that was read
 module _ (f : Netlist) (p : List ℕ) (q d : ℕ) where
-  -- a verdict and its value, where the tests come to that verdict
-  pub refused-is : {r : Refusal} {v u : Verdict} {x : ℕ} → (v ≡ Refused r) × (x ≡ 0) → Refused r ≡ u → (v ≡ u) × (x ≡ ceiling_by u f p q d)
-  unfolding ceiling_by
-  refused-is e j = (e.0 ∙ j, e.1 ∙ ap (λ (u : Verdict). ceiling_by u f p q d) j)
-
-  pub accepted-is : {u : Verdict} {x : ℕ} → x ≡ ceiling f p q d → Accepted ≡ u → (Accepted ≡ u) × (x ≡ ceiling_by u f p q d)
-  unfolding ceiling_by
-  accepted-is e j = (j, e ∙ ap (λ (u : Verdict). ceiling_by u f p q d) j)
-
   -- 11-14 first
-  pub judged-first : {r : Refusal} → Refused r ≡ judged f p → Refused r ≡ placed f p q d
+  pub judged-first : {r : Refusal} → Err r ≡ judged f p → Err r ≡ placed f p q d
   unfolding judged placed
-  judged-first e = ap (λ (v : Verdict). and_then v (first_refusal (place_tests f p q d))) e ∙ sym (refusal-append (judge_tests f p) (place_tests f p q d))
+  judged-first e = ap (λ (v : Result Unit Refusal). and_then v (first_refusal (place_tests f p q d))) e ∙ sym (refusal-append (judge_tests f p) (place_tests f p q d))
 
-  module _ (ok : judged f p ≡ Accepted) where
+  module _ (ok : judged f p ≡ Ok tt) where
     -- then 31, then 32
-    pub place-tests : {a b : Bool} → no_place f q d ≡ a → not_above f p q d ≡ b → cond a (Refused NotAQueue) (cond b (Refused WeightNotPositive) Accepted) ≡ placed f p q d
+    pub place-tests : {a b : Bool} → no_place f q d ≡ a → not_above f p q d ≡ b → cond a (Err NotAQueue) (cond b (Err WeightNotPositive) (Ok tt)) ≡ placed f p q d
     unfolding judged placed
     place-tests x y =
-        sym (ap₂ (λ (a b : Bool). cond a (Refused NotAQueue) (cond b (Refused WeightNotPositive) Accepted)) x y)
-        ∙ sym (refusal-append (judge_tests f p) (place_tests f p q d) ∙ ap (λ (v : Verdict). and_then v (first_refusal (place_tests f p q d))) ok)
-
-    pub constant-given : {k : ℤ} → k ≡ constant_by (judged f p) f p → k ≡ constant f p
-    unfolding constant_by
-    constant-given e = e ∙ ap (λ (v : Verdict). constant_by v f p) ok
+        sym (ap₂ (λ (a b : Bool). cond a (Err NotAQueue) (cond b (Err WeightNotPositive) (Ok tt))) x y)
+        ∙ sym (refusal-append (judge_tests f p) (place_tests f p q d) ∙ ap (λ (v : Result Unit Refusal). and_then v (first_refusal (place_tests f p q d))) ok)
 
   -- 32, by the weight
   pub above-none : {k : ℕ} → k ≡ above_zero (weight f p q d) → k ≡ 0 → not_above f p q d ≡ true
@@ -79,29 +61,24 @@ module _ (f : Netlist) (p : List ℕ) (q d : ℕ) where
 
 -- ---- 31
 module _ (f : Netlist) (q d : ℕ) where
-  -- the bounds come first
-  pub out-of-place : (leb f.components q || leb f.colours d) ≡ true → true ≡ no_place f q d
+  pub out-queue : f.components ≤ q → no_place f q d ≡ true
   unfolding no_place
-  out-of-place e = go (leb f.components q) refl (leb f.colours d) refl e
-    where
-      go : (a : Bool) → leb f.components q ≡ a → (b : Bool) → leb f.colours d ≡ b → (a || b) ≡ true → true ≡ (not (ltb q f.components && is_queue (kind (row_of f q))) || not (ltb d f.colours))
-      go true x b y h = rw (le-ltb q f.components (leb-true f.components q x))
-      go false x true y h = rw (le-ltb d f.colours (leb-true f.colours d y)) (sym (or-true (not (ltb q f.components && is_queue (kind (row_of f q))))))
-      go false x false y h = absurd (true≢false (sym h))
+  out-queue l = rw (le-ltb q f.components l)
 
-  module _ (e : (leb f.components q || leb f.colours d) ≡ false) where
-    pub in_place : (q < f.components) × (d < f.colours)
-    in_place = go (leb f.components q) refl (leb f.colours d) refl e
-      where
-        go : (a : Bool) → leb f.components q ≡ a → (b : Bool) → leb f.colours d ≡ b → (a || b) ≡ false → (q < f.components) × (d < f.colours)
-        go true x b y h = absurd (true≢false h)
-        go false x true y h = absurd (true≢false h)
-        go false x false y h = (leb-false f.components q x, leb-false f.colours d y)
+  pub out-colour : f.colours ≤ d → no_place f q d ≡ true
+  unfolding no_place
+  out-colour l = rw (le-ltb d f.colours l) (or-true (not (ltb q f.components && is_queue (kind (row_of f q)))))
 
-    -- then the kind
-    pub kind-decides : {x : ℕ} → x ≡ kind_number (row_of f q) → not (eqb x 2) ≡ no_place f q d
-    unfolding no_place
-    kind-decides {x} k = rw (lt-ltb q f.components in_place.0, lt-ltb d f.colours in_place.1) (ap not (row-queue (row_of f q) k) ∙ sym (or-false (not (is_queue (kind (row_of f q))))))
+  -- then the kind
+  pub kind-decides : q < f.components → d < f.colours → no_place f q d ≡ not (is_queue (kind (row_of f q)))
+  unfolding no_place
+  kind-decides l m = rw (lt-ltb q f.components l, lt-ltb d f.colours m) (or-false (not (is_queue (kind (row_of f q)))))
+
+  pub none-entry : (u : ℕ) → no_place f q d ≡ true → None ≡ cond (no_place f q d) None (Some u)
+  none-entry u e = sym (ap (λ (b : Bool). cond b None (Some u)) e)
+
+  pub some-entry : {u : ℕ} → no_place f q d ≡ false → Some u ≡ cond (no_place f q d) None (Some u)
+  some-entry {u} e = sym (ap (λ (b : Bool). cond b None (Some u)) e)
 
 -- a place: a queue and a colour of the fabric
 pub place-of : (f : Netlist) (q d : ℕ) → no_place f q d ≡ false → (q < f.components) × (is_queue (kind (row_of f q)) ≡ true) × (d < f.colours)
@@ -115,79 +92,64 @@ place-of f q d e = go (ltb q f.components) refl (is_queue (kind (row_of f q))) r
     go false x b y c z h = absurd (true≢false h)
 
 -- ---- the entry
-module _ (f : Netlist) (q d : ℕ) where
-  pub entry-by : {b : Bool} → no_place f q d ≡ b → cond b most_entries (8 * q + d) ≡ cond (no_place f q d) most_entries (8 * q + d)
-  entry-by e = sym (ap (λ (b : Bool). cond b most_entries (8 * q + d)) e)
-
--- past all entries: no place; else the entry of the place, and its weight
-module _ (f : Netlist) (h : AcceptedNetlist f) (q d : ℕ) {u : ℕ} (eu : u ≡ cond (no_place f q d) most_entries (8 * q + d)) where
-  low : no_place f q d ≡ false → 8 * q + d < 8 * f.components
-  low e = let r = place-of f q d e in omega (arith, r.0, r.2, h.facts.few_colours)
-
-  pub past_all : u ≡ most_entries → no_place f q d ≡ true
-  past_all z = go (no_place f q d) refl (sym eu ∙ z)
+module _ (f : Netlist) (h : AcceptedNetlist f) (q d : ℕ) where
+  -- none, or the entry of the place, and its weight
+  pub no-entry : None ≡ cond (no_place f q d) None (Some (8 * q + d)) → no_place f q d ≡ true
+  no-entry e = go (no_place f q d) e
     where
-      go : (b : Bool) → no_place f q d ≡ b → cond b most_entries (8 * q + d) ≡ most_entries → b ≡ true
-      go true e k = refl
-      go false e k = absurd (omega (arith, low e, k, h.facts.few_rows))
+      go : (b : Bool) → None ≡ cond b None (Some (8 * q + d)) → b ≡ true
+      go true x = refl
+      go false x = absurd cc
 
-  pub not-past : (u ≡ most_entries → ⊥) → no_place f q d ≡ false
-  not-past n = go (no_place f q d) eu
+  pub an-entry : {u : ℕ} → Some u ≡ cond (no_place f q d) None (Some (8 * q + d)) → (no_place f q d ≡ false) × (u ≡ 8 * q + d)
+  an-entry {u} e = go (no_place f q d) e
     where
-      go : (b : Bool) → u ≡ cond b most_entries (8 * q + d) → b ≡ false
-      go true k = absurd (n k)
-      go false k = refl
+      go : (b : Bool) → Some u ≡ cond b None (Some (8 * q + d)) → (b ≡ false) × (u ≡ 8 * q + d)
+      go true x = absurd cc
+      go false x = (refl, cc)
 
-  pub weight-there : (p : List ℕ) → no_place f q d ≡ false → {v : Verdict} → v ≡ Accepted → weight_by v f p u ≡ above_zero (weight f p q d)
-  unfolding weight_by
-  weight-there p e {v} ok =
+  pub weight-there : (p : List ℕ) → no_place f q d ≡ false → weight_at f p (8 * q + d) ≡ above_zero (weight f p q d)
+  unfolding weight_at
+  weight-there p e =
       let r = place-of f q d e in
-      ap₂ (λ (v : Verdict) (u : ℕ). weight_by v f p u) ok (eu ∙ sym (entry-by f q d e))
-      ∙ ap (λ (b : Bool). cond b (above_zero (entry f p (8 * q + d))) 0) (lt-ltb (8 * q + d) (8 * f.components) (low e))
+      let l : 8 * q + d < 8 * f.components = omega (arith, r.0, r.2, h.facts.few_colours) in
+      ap (λ (b : Bool). cond b (above_zero (entry f p (8 * q + d))) 0) (lt-ltb (8 * q + d) (8 * f.components) l)
       ∙ ap above_zero (entry-weight f p q d (omega (arith, r.2, h.facts.few_colours)) r.2)
 
 -- what is owed, where the weight is above 0
 pub owed-there : (n : ℕ) {k o : ℕ} → o ≡ cond (eqb k 0) 0 n → (k ≡ 0 → ⊥) → o ≡ n
 owed-there n {k} e h = e ∙ ap (λ (b : Bool). cond b 0 n) (ne_eqb k 0 h)
 
--- ---- the call
-module _ (file p : List ℕ) (q d : ℕ) where
-  pub file-refused : {r : Refusal} → reading file ≡ Rejected r → Refused r ≡ ceiling_verdict file p q d
-  unfolding ceiling_verdict
-  file-refused e = rest-refused file (ceiling_tests (netlist_in file) p q d) e
+-- ---- the call, by what reading comes to
+abbrev pub ceiling_read : Result Size Refusal → List ℕ → List ℕ → ℕ → ℕ → Result ℕ Refusal
+ceiling_read (Ok s) file p q d = giving (placed (netlist_of s (open_table file s.components)) p q d) (ceiling (netlist_of s (open_table file s.components)) p q d)
+ceiling_read (Err r) file p q d = Err r
 
-  pub file-zero : {r : Refusal} → reading file ≡ Rejected r → 0 ≡ ceiling_value file p q d
-  unfolding ceiling_value ceiling_by
-  file-zero e = ap (λ (v : Verdict). ceiling_by v (netlist_in file) p q d) (file-refused e)
-
-  module _ {s : Size} {rows ends order : List ℕ} (o : Opened file s rows ends order) where
-    abbrev f : Netlist
-    f = netlist_of s (take (row_size * s.components) rows)
-
-    pub read-verdict : placed f p q d ≡ ceiling_verdict file p q d
-    unfolding ceiling_verdict placed
-    read-verdict = o.judged (λ g. ceiling_tests g p q d)
-
-    pub read-value : ceiling_by (placed f p q d) f p q d ≡ ceiling_value file p q d
-    unfolding ceiling_value
-    read-value = ap (λ (v : Verdict). ceiling_by v f p q d) read-verdict ∙ ap (λ (g : Netlist). ceiling_by (ceiling_verdict file p q d) g p q d) (sym o.same)
+pub ceiling_by_reading : (file p : List ℕ) (q d : ℕ) → giving (ceiling_verdict file p q d) (ceiling (netlist_in file) p q d) ≡ ceiling_read (reading file) file p q d
+unfolding ceiling_verdict placed netlist_in reading
+ceiling_by_reading file p q d =
+    ap (λ (v : Result Unit Refusal). giving v (ceiling (netlist_in file) p q d)) (refusal-append (file_tests file) (ceiling_tests (netlist_in file) p q d)) ∙ go (first_refusal (file_tests file))
+  where
+    go : (v : Result Unit Refusal) → giving (and_then v (placed (netlist_in file) p q d)) (ceiling (netlist_in file) p q d) ≡ ceiling_read (read_as v (size_in (header_fields file))) file p q d
+    go (Ok tt) = refl
+    go (Err r) = refl
 
 -- ---- what an accepted call gives
 pub record Granted (f : Netlist) (p : List ℕ) (q d : ℕ) : Type 0 where
-  pub accepted : judged f p ≡ Accepted
+  pub accepted : judged f p ≡ Ok tt
   pub component : q < f.components
   pub queue : is_queue (kind (row_of f q)) ≡ true
   pub colour : d < f.colours
   pub above : 0 < above_zero (weight f p q d)
 
-pub granted : (file p : List ℕ) (q d : ℕ) → ceiling_verdict file p q d ≡ Accepted → Granted (netlist_in file) p q d
+pub granted : (file p : List ℕ) (q d : ℕ) → ceiling_verdict file p q d ≡ Ok tt → Granted (netlist_in file) p q d
 unfolding ceiling_verdict judged not_above
 granted file p q d e =
     let f : Netlist = netlist_in file in
     let t = (after-file file (ceiling_tests f p q d) e).1 in
     let j = then-accepted (first_refusal (judge_tests f p)) (first_refusal (place_tests f p q d)) (sym (refusal-append (judge_tests f p) (place_tests f p q d)) ∙ t) in
     let a = cond-accepted NotAQueue (no_place f q d) _ j.1 in
-    let b = cond-accepted WeightNotPositive (not_above f p q d) Accepted a.1 in
+    let b = cond-accepted WeightNotPositive (not_above f p q d) (Ok tt) a.1 in
     let r = place-of f q d a.0 in
     record { accepted = j.0; component = r.0; queue = r.1; colour = r.2; above = positive (eqb-false (above_zero (weight f p q d)) 0 b.0) }
   where

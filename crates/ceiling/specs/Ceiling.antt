@@ -1,10 +1,9 @@
 -- Ceiling for a place: a queue and a colour, of an accepted proposal.
-use Rattle.std.specs.Prelude.{Bool, not, ◌&&◌, ◌||◌, List, [], ◌∷◌, ◌++◌, ℕ, ◌/◌, min, ltb, eqb}
+use Rattle.std.specs.Prelude.{Bool, not, ◌&&◌, ◌||◌, Result, Ok, Err, List, [], ◌∷◌, ◌++◌, ℕ, ◌/◌, min, ltb, eqb}
 use Rattle.integers.specs.Sign.{above_zero}
 use Rattle.refusals.specs.Refusals.{Test, test, first_refusal}
+use Rattle.refusals.specs.declared.Refusal.{Refusal}
 use Rattle.refusals.specs.declared.Refusal.TheVariants.{NotAQueue, WeightNotPositive}
-use Rattle.refusals.specs.declared.Verdict.{Verdict}
-use Rattle.refusals.specs.declared.Verdict.TheVariants.{Accepted, Refused}
 use Rattle.component.specs.Kind.{is_queue}
 use Rattle.component.specs.Row.{kind, capacity}
 use Rattle.netlist.specs.Netlist.{Netlist, row_of}
@@ -34,16 +33,16 @@ abbrev pub ceiling_tests : Netlist → List ℕ → ℕ → ℕ → List Test
 ceiling_tests f p q d = judge_tests f p ++ place_tests f p q d
 
 -- the verdict on a fabric that was read
-unfoldable pub placed : Netlist → List ℕ → ℕ → ℕ → Verdict
+unfoldable pub placed : Netlist → List ℕ → ℕ → ℕ → Result Unit Refusal
 placed f p q d = first_refusal (ceiling_tests f p q d)
 
-unfoldable pub ceiling_verdict : List ℕ → List ℕ → ℕ → ℕ → Verdict
+unfoldable pub ceiling_verdict : List ℕ → List ℕ → ℕ → ℕ → Result Unit Refusal
 ceiling_verdict file p q d = first_refusal (file_tests file ++ ceiling_tests (netlist_in file) p q d)
 
 -- any other number that a refused call hands back is 0
-unfoldable pub ceiling_by : Verdict → Netlist → List ℕ → ℕ → ℕ → ℕ
-ceiling_by Accepted f p q d = ceiling f p q d
-ceiling_by (Refused r) f p q d = 0
+unfoldable pub ceiling_by : Result Unit Refusal → Netlist → List ℕ → ℕ → ℕ → ℕ
+ceiling_by (Ok tt) f p q d = ceiling f p q d
+ceiling_by (Err r) f p q d = 0
 
 unfoldable pub ceiling_value : List ℕ → List ℕ → ℕ → ℕ → ℕ
 ceiling_value file p q d = ceiling_by (ceiling_verdict file p q d) (netlist_in file) p q d

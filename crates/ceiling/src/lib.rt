@@ -1,104 +1,61 @@
 // ceiling: by a sum that is accepted, the most of one colour that can ever stand in one queue.
 #![tactic(auto)]
 
-ghost use Rattle.std.specs.Prelude.{◌≡◌, cond, ◌+◌, ◌*◌};
-ghost use Rattle.refusals.specs.declared.Verdict.TheVariants.{Refused};
-ghost use Rattle.component.specs.Limits.{most_entries};
-ghost use Rattle.netlist.specs.Netlist.{netlist_of};
-ghost use Rattle.netlist.specs.Accepted.{AcceptedNetlist};
-ghost use Rattle.reach.specs.Known.{Known};
-ghost use Rattle.ceiling.specs.Ceiling.{no_place, placed, ceiling_by, ceiling_verdict, ceiling_value};
+ghost use Rattle.std.specs.Prelude.{◌≡◌, cond, ◌+◌, ◌*◌, Some, None};
+ghost use Rattle.netlist.specs.View.{facts_of};
+ghost use Rattle.reader.specs.File.{netlist_in};
+ghost use Rattle.flows.specs.Verdict.{giving};
+ghost use Rattle.ceiling.specs.Ceiling.{ceiling, no_place, placed, ceiling_verdict};
 
-use component::{MOST_ENTRIES, TABLE_SIZE};
-use digits::wide;
-use netlist::Size;
-use order::MOST_SIGNALS;
-use reader::Reading;
-use record::ROW_SIZE;
-use refusals::{Refusal, Verdict};
-use wiring::ENDS_SIZE;
+use component::{Kind, MOST_ENTRIES};
+use netlist::Netlist;
+use reader::Buffers;
+use refusals::Refusal;
+use spread::ColouredNetlist;
 
-// The entry of a queue and a colour, or past all entries where that is no queue, or no colour of the fabric.
-fn entry_of(table: &[u8], size: Size, queue: u64, colour: u64) -> usize
-    requires { AcceptedNetlist (netlist_of size table.now) }
-    ensures { result ≡ cond (no_place (netlist_of size table.now) queue colour) most_entries (8 * queue + colour) }
+// The entry of a queue and a colour; none where that is no queue, or no colour of the fabric.
+fn entry_of(netlist: &Netlist, queue: u64, colour: u64) -> Option<usize>
+    ensures { result ≡ cond (no_place (facts_of netlist.now) queue colour) None (Some (8 * queue + colour)) }
 {
-    if (size.components as u64 <= queue) | (size.colours as u64 <= colour) {
-        return MOST_ENTRIES;
+    let size = netlist.size;
+    if size.components as u64 <= queue || size.colours as u64 <= colour {
+        return None;
     }
-    if component::kind(table, queue as usize) != 2 {
-        return MOST_ENTRIES;
-    }
-    8 * queue as usize + colour as usize
-}
-
-// A verdict on a place, and its ceiling; 0 where it is refused.
-#[derive(Clone, Copy)]
-pub struct Bound {
-    pub verdict: Verdict,
-    pub ceiling: usize,
-}
-
-fn refused(r: Refusal) -> Bound
-    ensures { (result.verdict ≡ Refused r) × (result.ceiling ≡ 0) }
-{
-    Bound {
-        verdict: Verdict::Refused(r),
-        ceiling: 0,
+    match netlist.table.kind(queue as usize) {
+        Kind::Queue => Some(8 * queue as usize + colour as usize),
+        _ => None,
     }
 }
 
-// The ceiling on a fabric that was read.
-fn ceiling_of(
-    table: &[u8],
-    size: Size,
-    sets: &[u8],
-    proposal: &[u8],
-    queue: u64,
-    colour: u64,
-) -> Bound
-    requires accepted_netlist { AcceptedNetlist (netlist_of size table.now) }
-    requires known { Known (netlist_of size table.now) sets.now }
-    ensures { (result.verdict ≡ placed (netlist_of size table.now) proposal.now queue colour)
-        × (result.ceiling ≡ ceiling_by (placed (netlist_of size table.now) proposal.now queue colour) (netlist_of size table.now) proposal.now queue colour) }
+// The ceiling on a fabric that was read. No sets are lent: they are worked out only where a flow is left.
+fn ceiling_of(netlist: &Netlist, proposal: &[u8], queue: u64, colour: u64) -> Result<usize, Refusal>
+    ensures { result ≡ giving (placed (facts_of netlist.now) proposal.now queue colour) (ceiling (facts_of netlist.now) proposal.now queue colour) }
 {
-    let u = entry_of(table, size, queue, colour);
-    let mut none = [0u8; 1];
-    let a = judgement::judge_entry(table, size, sets, proposal, MOST_ENTRIES, &mut none, u);
-    let j = a.judgement;
-    let found = j.verdict;
-    match found {
-        Verdict::Refused(r) => refused(r),
-        Verdict::Accepted => {
-            if u == MOST_ENTRIES {
-                return refused(Refusal::NotAQueue);
-            }
-            if a.weight == 0 {
-                return refused(Refusal::WeightNotPositive);
-            }
-            let left = headroom::raise(j.constant, a.owed);
-            let most = wide(component::capacity(table, queue as usize));
-            Bound {
-                verdict: Verdict::Accepted,
-                ceiling: headroom::bounded(left, a.weight, most),
-            }
-        }
+    let coloured = ColouredNetlist {
+        netlist: *netlist,
+        sets: None,
+    };
+    let Some(entry) = entry_of(netlist, queue, colour) else {
+        // What is wrong with the proposal is said first.
+        judgement::judge_answer(&coloured, proposal, MOST_ENTRIES)?;
+        return Err(Refusal::NotAQueue);
+    };
+    let weighing = judgement::judge_entry(&coloured, proposal, entry)?;
+    if weighing.weight == 0 {
+        return Err(Refusal::WeightNotPositive);
     }
+    let left = headroom::raise(weighing.constant, weighing.owed);
+    let most = netlist.table.capacity(queue as usize) as usize;
+    Ok(headroom::bounded(left, weighing.weight, most))
 }
 
-// The ceiling of a colour in a queue. No sets are lent: they are worked out only where a flow is left.
-pub fn ceiling(file: &[u8], proposal: &[u8], queue: u64, colour: u64) -> Bound
-    ensures { (result.verdict ≡ ceiling_verdict file.now proposal.now queue colour)
-        × (result.ceiling ≡ ceiling_value file.now proposal.now queue colour) }
+/// The ceiling of a colour in a queue: refused with 1 to 8, 11 to 14, with 31 if that is no queue or no colour of the fabric, and with 32 if its weight is not
+/// above 0.
+#[tactic(auto, using(crate::proofs::Answer::ceiling_by_reading))]
+pub fn ceiling(file: &[u8], proposal: &[u8], queue: u64, colour: u64) -> Result<usize, Refusal>
+    ensures { result ≡ giving (ceiling_verdict file.now proposal.now queue colour) (ceiling (netlist_in file.now) proposal.now queue colour) }
 {
-    let mut rows = [0u8; TABLE_SIZE];
-    let mut ends = [0u16; ENDS_SIZE];
-    let mut order = [0u16; MOST_SIGNALS];
-    match reader::read(file, &mut rows, &mut ends, &mut order) {
-        Reading::Rejected(e) => refused(e),
-        Reading::Fabric(size) => {
-            let end = ROW_SIZE * size.components;
-            ceiling_of(&rows[..end], size, &file[..0], proposal, queue, colour)
-        }
-    }
+    let mut buffers = Buffers::new();
+    let netlist = buffers.read(file)?.netlist;
+    ceiling_of(&netlist, proposal, queue, colour)
 }

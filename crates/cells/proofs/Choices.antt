@@ -9,13 +9,13 @@ use lib.ListN.{length, get_or, drop, length-take, length-drop}
 use lib.Seq.{get_or-drop, get_or-take}
 use borrow.Author.Tests.{not-false}
 use Rattle.digits.proofs.Least.{least-none, least-before}
-use Rattle.component.specs.Kind.{source}
+use Rattle.component.specs.declared.kinds.Kind.TheVariants.{Source}
 use Rattle.component.specs.Row.{kind}
 use Rattle.netlist.specs.Netlist.{Netlist, row_of}
 use Rattle.cells.specs.Choices.{good_choice, Allowed, step_choices, choice_at, bad_choice}
 use Rattle.cells.specs.Good.{emitted}
 
-pub source-choice : (f : Netlist) (choices : List ℕ) → Allowed f choices → (k : ℕ) → k < f.components → kind (row_of f k) ≡ source → emitted (row_of f k) (get_or choices k 0) ≡ true
+pub source-choice : (f : Netlist) (choices : List ℕ) → Allowed f choices → (k : ℕ) → k < f.components → kind (row_of f k) ≡ Source → emitted (row_of f k) (get_or choices k 0) ≡ true
 unfolding good_choice
 source-choice f choices o k h e = rw e at (o.each k h)
 

@@ -8,7 +8,7 @@ use native.Mathlib.Omega.{arith}
 use lib.Dec.{eqb}
 use lib.ListN.{length, get_or, take, drop, replicate, length-take}
 use borrow.Author.Tests.{eqb-true, eqb-false, eq-eqb, ne_eqb}
-use Rattle.component.specs.Kind.{queue}
+use Rattle.component.specs.declared.kinds.Kind.TheVariants.{Queue}
 use Rattle.component.specs.Row.{kind, capacity, filling, fill_colour}
 use Rattle.netlist.specs.Netlist.{Netlist, row_of}
 use Rattle.netlist.specs.Accepted.{AcceptedFabric}
@@ -42,14 +42,14 @@ count-le (c ∷ cs) d = go (eqb c d) (count-le cs d)
     go false l = omega arith
 
 -- in a good state a queue holds no more of a colour than its capacity
-pub counts-le : (f : Netlist) (state : List ℕ) → Good f state → (q : ℕ) → q < f.components → kind (row_of f q) ≡ queue → (d : ℕ) → counts state q d ≤ capacity (row_of f q)
+pub counts-le : (f : Netlist) (state : List ℕ) → Good f state → (q : ℕ) → q < f.components → kind (row_of f q) ≡ Queue → (d : ℕ) → counts state q d ≤ capacity (row_of f q)
 unfolding queue_colours
 counts-le f state g q h e d =
     let s : List ℕ = cell state q in
     omega (arith, count-le (take (get_or s 0 0) (drop 1 s)) d, length-take (get_or s 0 0) (drop 1 s), min-le_left (get_or s 0 0) (length (drop 1 s)), queue-count-le f state g q h e)
 
 -- the counts after start are the fillings
-pub start-counts : (f : Netlist) (ends order : List ℕ) → AcceptedFabric f ends order → (state : List ℕ) (q : ℕ) → q < f.components → kind (row_of f q) ≡ queue → (d : ℕ) →
+pub start-counts : (f : Netlist) (ends order : List ℕ) → AcceptedFabric f ends order → (state : List ℕ) (q : ℕ) → q < f.components → kind (row_of f q) ≡ Queue → (d : ℕ) →
     counts (started f state) q d ≡ cond (eqb d (fill_colour (row_of f q))) (filling (row_of f q)) 0
 unfolding start_cell
 start-counts f ends order a state q h e d =

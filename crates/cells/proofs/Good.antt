@@ -11,11 +11,11 @@ use lib.Seq.{get_or-drop}
 use borrow.Author.Tests.{ltb-true, leb-true, eqb-true, lt-ltb, le-ltb, le-leb, not-false}
 use Rattle.digits.proofs.Bools.{and_both}
 use Rattle.digits.proofs.Least.{least-none, least-before}
-use Rattle.component.specs.Kind.{source, queue}
+use Rattle.component.specs.declared.kinds.Kind.TheVariants.{Source, Queue}
 use Rattle.component.specs.Row.{kind, masked, capacity}
 use Rattle.netlist.specs.Netlist.{Netlist, row_of}
 use Rattle.netlist.specs.Accepted.{AcceptedFabric}
-use Rattle.cells.specs.Cells.{cell, queue_colours, cell_with, Queue, cell_size}
+use Rattle.cells.specs.Cells.{cell, queue_colours, cell_with, Queue as QueueCell, cell_size}
 use Rattle.cells.specs.Good.{emitted, good_byte, all, good_cell, Good, bad_component}
 
 pub all-at : (n : ℕ) (p : ℕ → Bool) → all n p ≡ true → (j : ℕ) → j < n → p j ≡ true
@@ -46,22 +46,22 @@ module _ (f : Netlist) (state : List ℕ) (g : Good f state) (k : ℕ) (h : k < 
   unfolding good_cell
   good-byte j l = all-at cell_size (λ j. good_byte (kind (row_of f k)) (row_of f k) f.colours (get_or (cell state k) 0 0) j (get_or (cell state k) j 0)) (g.each k h) j l
 
-  pub source-held : kind (row_of f k) ≡ source → emitted (row_of f k) (get_or (cell state k) 0 0) ≡ true
+  pub source-held : kind (row_of f k) ≡ Source → emitted (row_of f k) (get_or (cell state k) 0 0) ≡ true
   unfolding good_byte
   source-held e = rw e at (good-byte 0 (lit< tt))
 
-  pub queue-count-le : kind (row_of f k) ≡ queue → get_or (cell state k) 0 0 ≤ capacity (row_of f k)
+  pub queue-count-le : kind (row_of f k) ≡ Queue → get_or (cell state k) 0 0 ≤ capacity (row_of f k)
   unfolding good_byte
   queue-count-le e = leb-true _ _ (rw e at (good-byte 0 (lit< tt)))
 
-  pub queue-byte : kind (row_of f k) ≡ queue → (j : ℕ) → j < 63 → cond (ltb j (get_or (cell state k) 0 0)) (ltb (get_or (cell state k) (suc j) 0) f.colours) (eqb (get_or (cell state k) (suc j) 0) 0) ≡ true
+  pub queue-byte : kind (row_of f k) ≡ Queue → (j : ℕ) → j < 63 → cond (ltb j (get_or (cell state k) 0 0)) (ltb (get_or (cell state k) (suc j) 0) f.colours) (eqb (get_or (cell state k) (suc j) 0) 0) ≡ true
   unfolding good_byte
   queue-byte e j l = rw e at (good-byte (suc j) (omega arith))
 
-  pub queue-colour : kind (row_of f k) ≡ queue → (j : ℕ) → j < 63 → j < get_or (cell state k) 0 0 → get_or (cell state k) (suc j) 0 < f.colours
+  pub queue-colour : kind (row_of f k) ≡ Queue → (j : ℕ) → j < 63 → j < get_or (cell state k) 0 0 → get_or (cell state k) (suc j) 0 < f.colours
   queue-colour e j l m = ltb-true _ _ (rw (lt-ltb j (get_or (cell state k) 0 0) m) at (queue-byte e j l))
 
-  pub queue-rest : kind (row_of f k) ≡ queue → (j : ℕ) → j < 63 → get_or (cell state k) 0 0 ≤ j → get_or (cell state k) (suc j) 0 ≡ 0
+  pub queue-rest : kind (row_of f k) ≡ Queue → (j : ℕ) → j < 63 → get_or (cell state k) 0 0 ≤ j → get_or (cell state k) (suc j) 0 ≡ 0
   queue-rest e j l m = eqb-true _ _ (rw (le-ltb j (get_or (cell state k) 0 0) m) at (queue-byte e j l))
 
 zeros : (l : List ℕ) → ((j : ℕ) → j < length l → get_or l j 0 ≡ 0) → l ≡ replicate (length l) 0
@@ -69,7 +69,7 @@ zeros [] h = refl
 zeros (x ∷ l) h = cc (h 0 (omega arith), zeros l (λ j m. h (suc j) (omega arith)))
 
 -- a list of a count, colours and zeros is a queue's cell
-whole : (s : List ℕ) → length s ≡ cell_size → get_or s 0 0 ≤ 63 → ((j : ℕ) → j < 63 → get_or s 0 0 ≤ j → get_or s (suc j) 0 ≡ 0) → Queue s
+whole : (s : List ℕ) → length s ≡ cell_size → get_or s 0 0 ≤ 63 → ((j : ℕ) → j < 63 → get_or s 0 0 ≤ j → get_or s (suc j) 0 ≡ 0) → QueueCell s
 unfolding queue_colours cell_with
 whole [] l c h = absurd (omega arith)
 whole (b ∷ t) l c h = record { shape = shape; fits = omega (arith, count) }
@@ -85,7 +85,7 @@ whole (b ∷ t) l c h = record { shape = shape; fits = omega (arith, count) }
     shape : b ∷ t ≡ length (take b t) ∷ (take b t ++ replicate (63 - length (take b t)) 0)
     shape = rw (count, ← rest, take-append-drop)
 
-pub queue-whole : (f : Netlist) (ends order : List ℕ) → AcceptedFabric f ends order → (state : List ℕ) → Good f state → (k : ℕ) → k < f.components → kind (row_of f k) ≡ queue → Queue (cell state k)
+pub queue-whole : (f : Netlist) (ends order : List ℕ) → AcceptedFabric f ends order → (state : List ℕ) → Good f state → (k : ℕ) → k < f.components → kind (row_of f k) ≡ Queue → QueueCell (cell state k)
 queue-whole f ends order a state g k h e =
     whole (cell state k) (cell-long state k f.components g.long h) (omega (arith, queue-count-le f state g k h e, (a.rows k h).capacities e)) (queue-rest f state g k h e)
 
@@ -117,7 +117,7 @@ past (x ∷ cs) n (suc j) q = past cs n j (omega arith)
 
 -- the bytes of a queue with these colours are good
 pub queue-good : (r : List ℕ) (c : ℕ) (cs : List ℕ) → length cs ≤ capacity r → length cs ≤ 63 → Below c cs → (j : ℕ) → j < cell_size →
-    good_byte queue r c (get_or (cell_with cs) 0 0) j (get_or (cell_with cs) j 0) ≡ true
+    good_byte Queue r c (get_or (cell_with cs) 0 0) j (get_or (cell_with cs) j 0) ≡ true
 unfolding good_byte cell_with
 queue-good r c cs h f b zero l = le-leb (length cs) (capacity r) h
 queue-good r c cs h f b (suc j) l = go (dec_lt j (length cs))

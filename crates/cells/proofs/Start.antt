@@ -7,7 +7,8 @@ use native.Mathlib.Omega.{arith}
 use lib.Dec.{leb-zero}
 use lib.ListN.{length, get_or, drop, replicate, length-append, length-drop, length-replicate, get_or-replicate}
 use borrow.Author.Tests.{le-ltb}
-use Rattle.component.specs.Kind.{Kind, source, sink, queue, function, fork, join, switch, merge}
+use Rattle.component.specs.declared.kinds.Kind.{Kind}
+use Rattle.component.specs.declared.kinds.Kind.TheVariants.{Source, Sink, Queue, Function, Fork, Join, Switch, Merge}
 use Rattle.component.specs.Row.{kind, capacity, filling, fill_colour}
 use Rattle.netlist.specs.Netlist.{Netlist, row_of}
 use Rattle.netlist.specs.Accepted.{AcceptedFabric}
@@ -22,7 +23,7 @@ module _ (f : Netlist) (ends order : List ℕ) (a : AcceptedFabric f ends order)
     abbrev full : List ℕ
     full = replicate (filling (row_of f k)) (fill_colour (row_of f k))
 
-    fits : kind (row_of f k) ≡ queue → length full ≤ 63
+    fits : kind (row_of f k) ≡ Queue → length full ≤ 63
     fits e = rw length-replicate (omega (arith, (a.rows k h).fillings e, (a.rows k h).capacities e))
 
     below : Below f.colours full
@@ -30,43 +31,43 @@ module _ (f : Netlist) (ends order : List ℕ) (a : AcceptedFabric f ends order)
 
     zeros-good : (d : Kind) → (j : ℕ) → good_byte d (row_of f k) f.colours 0 j 0 ≡ true
     unfolding good_byte
-    zeros-good source zero = refl
-    zeros-good source (suc j) = refl
-    zeros-good sink zero = refl
-    zeros-good sink (suc j) = refl
-    zeros-good queue zero = leb-zero (capacity (row_of f k))
-    zeros-good queue (suc j) = rw (le-ltb j 0 (omega arith))
-    zeros-good function j = refl
-    zeros-good fork j = refl
-    zeros-good join j = refl
-    zeros-good switch j = refl
-    zeros-good merge zero = refl
-    zeros-good merge (suc j) = refl
+    zeros-good Source zero = refl
+    zeros-good Source (suc j) = refl
+    zeros-good Sink zero = refl
+    zeros-good Sink (suc j) = refl
+    zeros-good Queue zero = leb-zero (capacity (row_of f k))
+    zeros-good Queue (suc j) = rw (le-ltb j 0 (omega arith))
+    zeros-good Function j = refl
+    zeros-good Fork j = refl
+    zeros-good Join j = refl
+    zeros-good Switch j = refl
+    zeros-good Merge zero = refl
+    zeros-good Merge (suc j) = refl
 
     plain : (d : Kind) (j : ℕ) → good_byte d (row_of f k) f.colours (get_or (replicate cell_size 0) 0 0) j (get_or (replicate cell_size 0) j 0) ≡ true
     plain d j = rw (zero-at cell_size j) (zeros-good d j)
 
     start-good : (d : Kind) → kind (row_of f k) ≡ d → (j : ℕ) → j < cell_size → good_byte d (row_of f k) f.colours (get_or (start_cell d (row_of f k)) 0 0) j (get_or (start_cell d (row_of f k)) j 0) ≡ true
     unfolding start_cell
-    start-good source e j l = plain source j
-    start-good sink e j l = plain sink j
-    start-good queue e j l = queue-good (row_of f k) f.colours full (rw length-replicate ((a.rows k h).fillings e)) (fits e) below j l
-    start-good function e j l = plain function j
-    start-good fork e j l = plain fork j
-    start-good join e j l = plain join j
-    start-good switch e j l = plain switch j
-    start-good merge e j l = plain merge j
+    start-good Source e j l = plain Source j
+    start-good Sink e j l = plain Sink j
+    start-good Queue e j l = queue-good (row_of f k) f.colours full (rw length-replicate ((a.rows k h).fillings e)) (fits e) below j l
+    start-good Function e j l = plain Function j
+    start-good Fork e j l = plain Fork j
+    start-good Join e j l = plain Join j
+    start-good Switch e j l = plain Switch j
+    start-good Merge e j l = plain Merge j
 
     long-by : (d : Kind) → kind (row_of f k) ≡ d → length (start_cell d (row_of f k)) ≡ cell_size
     unfolding start_cell
-    long-by source e = refl
-    long-by sink e = refl
-    long-by queue e = queue-length (cell_with full) (cell-queue full (fits e))
-    long-by function e = refl
-    long-by fork e = refl
-    long-by join e = refl
-    long-by switch e = refl
-    long-by merge e = refl
+    long-by Source e = refl
+    long-by Sink e = refl
+    long-by Queue e = queue-length (cell_with full) (cell-queue full (fits e))
+    long-by Function e = refl
+    long-by Fork e = refl
+    long-by Join e = refl
+    long-by Switch e = refl
+    long-by Merge e = refl
 
     start-long : length (start_at f k) ≡ cell_size
     unfolding start_at

@@ -1,21 +1,22 @@
 -- Allowed choices.
 use Rattle.std.specs.Prelude.{◌≡◌, Bool, true, not, List, ℕ, ◌*◌, ◌%◌, ◌<◌, ltb, eqb, length, get_or, take, drop}
 use Rattle.digits.specs.Least.{least}
-use Rattle.component.specs.Kind.{Kind, source, sink, queue, function, fork, join, switch, merge}
+use Rattle.component.specs.declared.kinds.Kind.{Kind}
+use Rattle.component.specs.declared.kinds.Kind.TheVariants.{Source, Sink, Queue, Function, Fork, Join, Switch, Merge}
 use Rattle.component.specs.Row.{kind}
 use Rattle.netlist.specs.Netlist.{Netlist, row_of}
 use Rattle.cells.specs.Good.{emitted}
 
 -- A choice byte: source 0 or 1 + an emitted colour; sink and merge 0 or 1; others 0.
 unfoldable pub good_choice : Kind → List ℕ → ℕ → Bool
-good_choice source row b = emitted row b
-good_choice sink row b = ltb b 2
-good_choice queue row b = eqb b 0
-good_choice function row b = eqb b 0
-good_choice fork row b = eqb b 0
-good_choice join row b = eqb b 0
-good_choice switch row b = eqb b 0
-good_choice merge row b = ltb b 2
+good_choice Source row b = emitted row b
+good_choice Sink row b = ltb b 2
+good_choice Queue row b = eqb b 0
+good_choice Function row b = eqb b 0
+good_choice Fork row b = eqb b 0
+good_choice Join row b = eqb b 0
+good_choice Switch row b = eqb b 0
+good_choice Merge row b = ltb b 2
 
 -- A step has one choice byte a component.
 pub record Allowed (f : Netlist) (choices : List ℕ) : Type 0 where

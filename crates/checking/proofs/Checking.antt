@@ -1,61 +1,60 @@
--- What each way through `check` comes to. Assumes nothing.
-use mathlib.Core.Path.{◌≡◌, ap, sym, ◌∙◌}
-use mathlib.Core.List.{List}
-use Prim.Native.Nat.{ℕ, ◌*◌, ◌/◌}
-use lib.ListN.{length, take}
-use lib.IntN.{ℤ, pos}
+-- What `check` comes to, by what reading comes to; and its two instances. Assumes nothing.
+use Rattle.std.proofs.Common.{◌≡◌, refl, ap, ◌∙◌, ℕ, ◌/◌, ℤ, List, length, Result, Ok, Err}
+use native.Mathlib.Omega.{arith}
+use Rattle.refusals.specs.Refusals.{first_refusal}
 use Rattle.refusals.specs.declared.Refusal.{Refusal}
-use Rattle.refusals.specs.declared.Verdict.{Verdict}
-use Rattle.refusals.specs.declared.Verdict.TheVariants.{Refused}
-use Rattle.record.specs.Sizes.{row_size}
-use Rattle.netlist.specs.Netlist.{Netlist, netlist_of}
+use Rattle.refusals.proofs.Refusals.{and_then, refusal-append}
+use Rattle.record.specs.Table.{open_table}
+use Rattle.netlist.specs.Netlist.{netlist_of}
 use Rattle.netlist.specs.declared.Size.{Size}
-use Rattle.reader.specs.File.{netlist_in}
-use Rattle.reader.specs.Reading.{reading}
-use Rattle.reader.specs.declared.Reading.TheVariants.{Rejected}
-use Rattle.reader.proofs.Opened.{rest-refused, Opened}
-use Rattle.flows.specs.Verdict.{judged_within, constant_by, table_by, bytes_by}
-use Rattle.judgement.specs.Judged.{bytes_where}
-use Rattle.judgement.proofs.Judged.{bytes-there}
-use Rattle.checking.specs.Check.{check_tests, check_verdict, check_constant, weights_after_check, bytes_after_check}
+use Rattle.reader.specs.File.{header_fields, size_in, netlist_in, file_tests}
+use Rattle.reader.specs.Reading.{read_as, reading}
+use Rattle.flows.specs.Flows.{constant}
+use Rattle.flows.specs.Verdict.{giving, judged_within}
+use Rattle.judgement.specs.Entries.{entries_filled, bytes_filled}
+use Rattle.judgement.specs.Judged.{written_by}
+use Rattle.judgement.proofs.Judged.{table-written, bytes-written}
+use Rattle.checking.specs.Check.{check_tests, check_verdict, weights_after_check, bytes_after_check}
 
-module _ (file p : List ℕ) where
-  -- ---- the file is refused
-  module _ {r : Refusal} (e : reading file ≡ Rejected r) where
-    pub check-refused : (space : ℕ) → Refused r ≡ check_verdict file p space
-    unfolding check_verdict
-    check-refused space = rest-refused file (check_tests (netlist_in file) p space) e
+-- of a file that was read, or of one that is refused
+abbrev pub checked_read : Result Size Refusal → List ℕ → List ℕ → ℕ → Result ℤ Refusal
+checked_read (Ok s) file p space =
+    giving (judged_within (netlist_of s (open_table file s.components)) p space) (constant (netlist_of s (open_table file s.components)) p)
+checked_read (Err r) file p space = Err r
 
-    pub check-zero : (space : ℕ) → pos 0 ≡ check_constant file p space
-    unfolding check_constant constant_by
-    check-zero space = ap (λ (v : Verdict). constant_by v (netlist_in file) p) (check-refused space)
+abbrev pub written_read : {E : Type 0} → (ℕ → (ℕ → ℤ) → List E → List E) → Result Size Refusal → List ℕ → List ℕ → ℕ → List E → List E
+written_read filled (Ok s) file p space old =
+    written_by filled (judged_within (netlist_of s (open_table file s.components)) p space) (netlist_of s (open_table file s.components)) p old
+written_read filled (Err r) file p space old = old
 
-    pub check-kept : (w : List ℤ) → w ≡ weights_after_check file p w
-    unfolding weights_after_check table_by
-    check-kept w = ap (λ (v : Verdict). table_by v (netlist_in file) p w) (check-refused (length w))
+module _ (file p : List ℕ) (space : ℕ) where
+  tests : check_verdict file p space ≡ and_then (first_refusal (file_tests file)) (judged_within (netlist_in file) p space)
+  unfolding check_verdict judged_within
+  tests = refusal-append (file_tests file) (check_tests (netlist_in file) p space)
 
-    pub bytes-kept : (bytes : List ℕ) → bytes ≡ bytes_after_check file p bytes
-    unfolding bytes_after_check bytes_by
-    bytes-kept bytes = ap (λ (v : Verdict). bytes_by v (netlist_in file) p bytes) (check-refused (length bytes / 8))
+  pub checked_by_reading : giving (check_verdict file p space) (constant (netlist_in file) p) ≡ checked_read (reading file) file p space
+  unfolding netlist_in reading
+  checked_by_reading = ap (λ (v : Result Unit Refusal). giving v (constant (netlist_in file) p)) tests ∙ go (first_refusal (file_tests file))
+    where
+      go : (v : Result Unit Refusal) → giving (and_then v (judged_within (netlist_in file) p space)) (constant (netlist_in file) p) ≡ checked_read (read_as v (size_in (header_fields file))) file p space
+      go (Ok tt) = refl
+      go (Err r) = refl
 
-  -- ---- the file is read
-  module _ {s : Size} {rows ends order : List ℕ} (o : Opened file s rows ends order) where
-    abbrev f : Netlist
-    f = netlist_of s (take (row_size * s.components) rows)
+  pub written_by_reading : {E : Type 0} (filled : ℕ → (ℕ → ℤ) → List E → List E) (old : List E) → written_by filled (check_verdict file p space) (netlist_in file) p old ≡ written_read filled (reading file) file p space old
+  unfolding netlist_in reading written_by
+  written_by_reading filled old = ap (λ (v : Result Unit Refusal). written_by filled v (netlist_in file) p old) tests ∙ go (first_refusal (file_tests file))
+    where
+      go : (v : Result Unit Refusal) → written_by filled (and_then v (judged_within (netlist_in file) p space)) (netlist_in file) p old ≡ written_read filled (read_as v (size_in (header_fields file))) file p space old
+      go (Ok tt) = refl
+      go (Err r) = refl
 
-    pub check-judged : (space : ℕ) → judged_within f p space ≡ check_verdict file p space
-    unfolding check_verdict judged_within
-    check-judged space = o.judged (λ g. check_tests g p space)
+-- ---- the weights as entries, and as bytes
+pub check-entries : (file p : List ℕ) (table : List ℤ) → written_by entries_filled (check_verdict file p (length table / 1)) (netlist_in file) p table ≡ weights_after_check file p table
+unfolding weights_after_check
+check-entries file p table =
+    let e : length table / 1 ≡ length table = omega arith in
+    ap (λ (n : ℕ). written_by entries_filled (check_verdict file p n) (netlist_in file) p table) e ∙ table-written (check_verdict file p (length table)) (netlist_in file) p table
 
-    pub check-constant : (space : ℕ) → constant_by (judged_within f p space) f p ≡ check_constant file p space
-    unfolding check_constant
-    check-constant space = ap (λ (v : Verdict). constant_by v f p) (check-judged space) ∙ ap (λ (g : Netlist). constant_by (check_verdict file p space) g p) (sym o.same)
-
-    pub check-written : (w : List ℤ) → table_by (judged_within f p (length w)) f p w ≡ weights_after_check file p w
-    unfolding weights_after_check
-    check-written w = ap (λ (v : Verdict). table_by v f p w) (check-judged (length w)) ∙ ap (λ (g : Netlist). table_by (check_verdict file p (length w)) g p w) (sym o.same)
-
-    pub bytes-written : (bytes : List ℕ) → bytes_where (judged_within f p (length bytes / 8)) f p bytes ≡ bytes_after_check file p bytes
-    unfolding bytes_after_check
-    bytes-written bytes =
-        bytes-there f p bytes ∙ ap (λ (v : Verdict). bytes_by v f p bytes) (check-judged (length bytes / 8)) ∙ ap (λ (g : Netlist). bytes_by (check_verdict file p (length bytes / 8)) g p bytes) (sym o.same)
+pub check-bytes : (file p bytes : List ℕ) → written_by bytes_filled (check_verdict file p (length bytes / 8)) (netlist_in file) p bytes ≡ bytes_after_check file p bytes
+unfolding bytes_after_check
+check-bytes file p bytes = bytes-written (check_verdict file p (length bytes / 8)) (netlist_in file) p bytes

@@ -1,8 +1,8 @@
 -- check as a function of the bytes lent to it.
-use Rattle.std.specs.Prelude.{List, [], ◌∷◌, ◌++◌, ℕ, ◌*◌, ◌/◌, ltb, length, ℤ}
+use Rattle.std.specs.Prelude.{Result, List, [], ◌∷◌, ◌++◌, ℕ, ◌*◌, ◌/◌, ltb, length, ℤ}
 use Rattle.refusals.specs.Refusals.{Test, test, first_refusal}
+use Rattle.refusals.specs.declared.Refusal.{Refusal}
 use Rattle.refusals.specs.declared.Refusal.TheVariants.{ResultSpace}
-use Rattle.refusals.specs.declared.Verdict.{Verdict}
 use Rattle.netlist.specs.Netlist.{Netlist}
 use Rattle.reader.specs.File.{netlist_in, file_tests}
 use Rattle.flows.specs.Verdict.{judge_tests, constant_by, table_by, bytes_by}
@@ -11,7 +11,7 @@ use Rattle.flows.specs.Verdict.{judge_tests, constant_by, table_by, bytes_by}
 abbrev pub check_tests : Netlist → List ℕ → ℕ → List Test
 check_tests f p space = judge_tests f p ++ (test ResultSpace (ltb space (8 * f.components)) ∷ [])
 
-unfoldable pub check_verdict : List ℕ → List ℕ → ℕ → Verdict
+unfoldable pub check_verdict : List ℕ → List ℕ → ℕ → Result Unit Refusal
 check_verdict file p space = first_refusal (file_tests file ++ check_tests (netlist_in file) p space)
 
 -- K, 0 where the call is refused

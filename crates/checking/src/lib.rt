@@ -2,74 +2,43 @@
 #![tactic(auto)]
 
 ghost use Rattle.std.specs.Prelude.{◌≡◌, ◌/◌, length};
-ghost use Rattle.checking.specs.Check.{check_verdict, check_constant, weights_after_check, bytes_after_check};
+ghost use Rattle.reader.specs.File.{netlist_in};
+ghost use Rattle.flows.specs.Flows.{constant};
+ghost use Rattle.flows.specs.Verdict.{giving};
+ghost use Rattle.judgement.specs.Judged.{written_by};
+ghost use Rattle.checking.specs.Check.{check_verdict};
 
-use component::TABLE_SIZE;
-use judgement::Judgement;
-use order::MOST_SIGNALS;
-use reader::Reading;
-use record::ROW_SIZE;
-use refusals::Verdict;
-use wiring::ENDS_SIZE;
+use judgement::Entry;
+use reader::Buffers;
+use refusals::Refusal;
+use spread::ColouredNetlist;
 
-// What check answers, with room for so many entries. Here and below no sets are lent: they are worked out only where a flow is left.
-pub fn check_answer(file: &[u8], proposal: &[u8], space: usize) -> Judgement
-    ensures { (result.verdict ≡ check_verdict file.now proposal.now space)
-        × (result.constant ≡ check_constant file.now proposal.now space) }
+/// What check answers, with room for so many entries: the constant K, or the first of the refusals 1 to 8, 11 to 14 and 23. Here and below no sets are lent: they
+/// are worked out only where a flow is left.
+#[tactic(auto, using(crate::proofs::Checking::checked_by_reading))]
+pub fn check_answer(file: &[u8], proposal: &[u8], space: usize) -> Result<i64, Refusal>
+    ensures { result ≡ giving (check_verdict file.now proposal.now space) (constant (netlist_in file.now) proposal.now) }
 {
-    let mut rows = [0u8; TABLE_SIZE];
-    let mut ends = [0u16; ENDS_SIZE];
-    let mut order = [0u16; MOST_SIGNALS];
-    match reader::read(file, &mut rows, &mut ends, &mut order) {
-        Reading::Rejected(e) => judgement::refused(e),
-        Reading::Fabric(size) => {
-            let end = ROW_SIZE * size.components;
-            let mut none = [0u8; 1];
-            judgement::judge_bytes(&rows[..end], size, &file[..0], proposal, space, &mut none)
-        }
-    }
+    let mut buffers = Buffers::new();
+    let netlist = buffers.read(file)?.netlist;
+    let coloured = ColouredNetlist {
+        netlist,
+        sets: None,
+    };
+    judgement::judge_answer(&coloured, proposal, space)
 }
 
-// Checks a proposal and writes the weights.
-pub fn check(file: &[u8], proposal: &[u8], weights: &mut [i64]) -> Judgement
-    ensures { (result.verdict ≡ check_verdict file.now proposal.now (length weights.old))
-        × (result.constant ≡ check_constant file.now proposal.now (length weights.old))
-        × (weights.new ≡ weights_after_check file.now proposal.now weights.old) }
+/// Checks a proposal and writes the weights: as entries, or as bytes, 8 for each, lowest first.
+#[tactic(auto, using(crate::proofs::Checking::checked_by_reading, crate::proofs::Checking::written_by_reading))]
+pub fn check<E: Entry>(file: &[u8], proposal: &[u8], weights: &mut [E]) -> Result<i64, Refusal>
+    ensures constant { result ≡ giving (check_verdict file.now proposal.now (length weights.old / E.WIDTH)) (constant (netlist_in file.now) proposal.now) }
+    ensures weights { weights.new ≡ written_by E.filled (check_verdict file.now proposal.now (length weights.old / E.WIDTH)) (netlist_in file.now) proposal.now weights.old }
 {
-    let mut rows = [0u8; TABLE_SIZE];
-    let mut ends = [0u16; ENDS_SIZE];
-    let mut order = [0u16; MOST_SIGNALS];
-    match reader::read(file, &mut rows, &mut ends, &mut order) {
-        Reading::Rejected(e) => judgement::refused(e),
-        Reading::Fabric(size) => {
-            let end = ROW_SIZE * size.components;
-            judgement::judge(&rows[..end], size, &file[..0], proposal, &mut *weights)
-        }
-    }
-}
-
-// Checks a proposal and writes the weights as bytes, 8 for each, lowest first.
-pub fn check_bytes(file: &[u8], proposal: &[u8], weights: &mut [u8]) -> Verdict
-    ensures { (result ≡ check_verdict file.now proposal.now (length weights.old / 8))
-        × (weights.new ≡ bytes_after_check file.now proposal.now weights.old) }
-{
-    let mut rows = [0u8; TABLE_SIZE];
-    let mut ends = [0u16; ENDS_SIZE];
-    let mut order = [0u16; MOST_SIGNALS];
-    match reader::read(file, &mut rows, &mut ends, &mut order) {
-        Reading::Rejected(e) => Verdict::Refused(e),
-        Reading::Fabric(size) => {
-            let end = ROW_SIZE * size.components;
-            let space = weights.len() / 8;
-            let j = judgement::judge_bytes(
-                &rows[..end],
-                size,
-                &file[..0],
-                proposal,
-                space,
-                &mut *weights,
-            );
-            j.verdict
-        }
-    }
+    let mut buffers = Buffers::new();
+    let netlist = buffers.read(file)?.netlist;
+    let coloured = ColouredNetlist {
+        netlist,
+        sets: None,
+    };
+    judgement::judge(&coloured, proposal, weights)
 }

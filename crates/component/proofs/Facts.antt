@@ -12,7 +12,11 @@ use Rattle.digits.specs.Packed.{Fit}
 use Rattle.digits.proofs.Bools.{and_both}
 use Rattle.record.specs.Record.{row_widths}
 use Rattle.record.specs.Sizes.{row_size}
-use Rattle.component.specs.Kind.{Kind, queue, Port, A, B, C, port_use, is_used, uses_first_map, uses_second_map, uses_mask, is_source, is_queue}
+use Rattle.component.specs.declared.kinds.Kind.{Kind}
+use Rattle.component.specs.declared.kinds.Kind.TheVariants.{Queue}
+use Rattle.component.specs.declared.kinds.Port.{Port}
+use Rattle.component.specs.declared.kinds.Port.TheVariants.{A, B, C}
+use Rattle.component.specs.Kind.{port_use, is_used, uses_first_map, uses_second_map, uses_mask, is_source, is_queue}
 use Rattle.component.specs.Row.{kind, kind_number, port, first_map, second_map, mask, masked, capacity, filling, fill_colour, fits_below, entry_ok, map_ok, mask_ok, filling_ok, fill_colour_ok, port_ok, row_ok}
 use Rattle.component.specs.Facts.{RowFacts}
 use Rattle.component.specs.Limits.{most_colours}
@@ -117,7 +121,7 @@ row-facts n m row p l q byte e =
     let r = row-parts n m row e in
     let low = mask_low (uses_mask (kind row)) (is_source (kind row)) n (mask row) r.masks in
     let masks : (d : ℕ) → d < 8 → masked row d ≡ true → d < n = λ d b o. bit_below (mask row) n d l low b (eqb-true (mask row / 2 ^ (7 - d) % 2) 1 o) in
-    let queues : kind row ≡ queue → Filled (capacity row) (filling row) = λ k. filled (capacity row) (filling row) (subst (λ (k : Kind). filling_ok (is_queue k) (capacity row) (filling row) ≡ true) k r.fillings) in
+    let queues : kind row ≡ Queue → Filled (capacity row) (filling row) = λ k. filled (capacity row) (filling row) (subst (λ (k : Kind). filling_ok (is_queue k) (capacity row) (filling row) ≡ true) k r.fillings) in
     record {
       kinds = kind-le r;
       ports = λ p. below-lt (is_used (port_use (kind row) p)) (port row p) m m (r.ports p) (omega arith) q;

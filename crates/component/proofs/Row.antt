@@ -1,8 +1,8 @@
 -- Laws of rows. Assumes nothing.
-use mathlib.Core.Path.{◌≡◌, refl, sym, ap}
+use mathlib.Core.Path.{◌≡◌, refl, sym}
 use Prim.Native.Nat.{ℕ, zero, suc, ◌+◌, ◌*◌, ◌≤◌, ◌<◌}
 use native.Mathlib.Omega.{arith}
-use mathlib.Core.Bool.{Bool, true, false, cond, ◌&&◌, ◌||◌}
+use mathlib.Core.Bool.{Bool, true, false, ◌&&◌, ◌||◌}
 use mathlib.Core.List.{List}
 use lib.ListN.{length, get_or, get_or-eq_default}
 use lib.Dec.{leb, eqb}
@@ -10,8 +10,9 @@ use borrow.Author.Tests.{leb-true}
 use Rattle.record.specs.Sizes.{row_size}
 use Rattle.record.specs.Table.{row}
 use Rattle.record.proofs.Table.{row-length}
-use Rattle.component.specs.Kind.{kind_of, A, B, C, port_of, port_use, is_used, uses_first_map, uses_second_map, uses_mask, is_source, is_queue}
-use Rattle.component.specs.Row.{port, map_of, first_map, second_map, fits_below, map_ok, mask_ok, filling_ok, fill_colour_ok, row_ok}
+use Rattle.component.specs.declared.kinds.Port.TheVariants.{A, B, C}
+use Rattle.component.specs.Kind.{kind_of, port_of, port_use, is_used, uses_first_map, uses_second_map, uses_mask, is_source, is_queue}
+use Rattle.component.specs.Row.{port, first_map, second_map, fits_below, map_ok, mask_ok, filling_ok, fill_colour_ok, row_ok}
 
 -- what holds of 0 to 7 holds of each number that is at most 7
 pub each-kind : (P : ℕ → Type 0) → P 0 → P 1 → P 2 → P 3 → P 4 → P 5 → P 6 → P 7 → (k : ℕ) → k ≤ 7 → P k
@@ -81,7 +82,3 @@ port-field r zero h = refl
 port-field r (suc zero) h = refl
 port-field r (suc (suc zero)) h = refl
 port-field r (suc (suc (suc p))) h = absurd (omega arith)
-
-pub map-field : (second : Bool) (r : List ℕ) (d : ℕ) {i : ℕ} → i ≡ cond second 12 4 → get_or r (i + d) 0 ≡ map_of second r d
-map-field false r d e = ap (λ (i : ℕ). get_or r (i + d) 0) e
-map-field true r d e = ap (λ (i : ℕ). get_or r (i + d) 0) e

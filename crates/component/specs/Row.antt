@@ -1,6 +1,11 @@
 -- A row of the open table by the names of its fields, and when a fabric of C colours and M channels may have it.
-use Rattle.std.specs.Prelude.{ℕ, zero, suc, ◌+◌, ◌-◌, ◌*◌, ◌/◌, ◌%◌, ◌^◌, Bool, true, false, cond, not, ◌&&◌, ◌||◌, List, get_or, leb, ltb, eqb}
-use Rattle.component.specs.Kind.{Kind, kind_of, Port, A, B, C, port_use, is_used, uses_first_map, uses_second_map, uses_mask, is_source, is_queue}
+use Rattle.std.specs.Prelude.{ℕ, zero, suc, ◌+◌, ◌-◌, ◌*◌, ◌/◌, ◌%◌, ◌^◌, Bool, cond, not, ◌&&◌, ◌||◌, List, get_or, leb, ltb, eqb}
+use Rattle.component.specs.declared.kinds.Kind.{Kind}
+use Rattle.component.specs.declared.kinds.Map.{Map}
+use Rattle.component.specs.declared.kinds.Map.TheVariants.{First, Second}
+use Rattle.component.specs.declared.kinds.Port.{Port}
+use Rattle.component.specs.declared.kinds.Port.TheVariants.{A, B, C}
+use Rattle.component.specs.Kind.{kind_of, port_use, is_used, uses_first_map, uses_second_map, uses_mask, is_source, is_queue}
 
 -- kind, A, B, C, 8 and 8 map entries, mask, capacity, filling, fill colour
 abbrev pub kind_number : List ℕ → ℕ
@@ -21,9 +26,14 @@ abbrev pub second_map : List ℕ → ℕ → ℕ
 second_map row d = get_or row (12 + d) 0
 
 -- the first map or the second
-abbrev pub map_of : Bool → List ℕ → ℕ → ℕ
-map_of false row d = first_map row d
-map_of true row d = second_map row d
+abbrev pub map_of : Map → List ℕ → ℕ → ℕ
+map_of First row d = first_map row d
+map_of Second row d = second_map row d
+
+-- where it begins in a row
+abbrev pub map_start : Map → ℕ
+map_start First = 4
+map_start Second = 12
 
 abbrev pub mask : List ℕ → ℕ
 mask row = get_or row 20 0

@@ -2,8 +2,8 @@
 use mathlib.Core.Path.{◌≡◌, ap, sym, subst}
 use mathlib.Core.List.{List}
 use Prim.Native.Nat.{ℕ, ◌≤◌}
-use Rattle.refusals.specs.declared.Verdict.{Verdict}
-use Rattle.refusals.specs.declared.Verdict.TheVariants.{Accepted}
+use Rattle.std.proofs.Common.{Ok, Result}
+use Rattle.refusals.specs.declared.Refusal.{Refusal}
 use Rattle.component.specs.Row.{kind}
 use Rattle.component.proofs.ByKind.{is-queue}
 use Rattle.netlist.specs.Netlist.{Netlist, row_of}
@@ -22,12 +22,12 @@ use Rattle.demands.proofs.Sums.{sums_kept, sums-inside}
 good-within : (f : Netlist) (state : List ℕ) → Good f state → Within f (counts state)
 good-within f state g = record { most = λ q l e d. counts-le f state g q l (is-queue (kind (row_of f q)) e) d }
 
-value-given : (file p : List ℕ) (q d : ℕ) → ceiling_verdict file p q d ≡ Accepted → ceiling_value file p q d ≡ ceiling (netlist_in file) p q d
+value-given : (file p : List ℕ) (q d : ℕ) → ceiling_verdict file p q d ≡ Ok tt → ceiling_value file p q d ≡ ceiling (netlist_in file) p q d
 unfolding ceiling_value ceiling_by
-value-given file p q d e = ap (λ (v : Verdict). ceiling_by v (netlist_in file) p q d) e
+value-given file p q d e = ap (λ (v : Result Unit Refusal). ceiling_by v (netlist_in file) p q d) e
 
 -- in a good state in which the sum is the constant
-below : (file p : List ℕ) (q d : ℕ) → ceiling_verdict file p q d ≡ Accepted → {s : List ℕ}
+below : (file p : List ℕ) (q d : ℕ) → ceiling_verdict file p q d ≡ Ok tt → {s : List ℕ}
     → Good (netlist_in file) s × (accepted_sum (netlist_in file) p (counts s) ≡ constant (netlist_in file) p) → counts s q d ≤ ceiling_value file p q d
 below file p q d accepted {s} k =
     let f : Netlist = netlist_in file in

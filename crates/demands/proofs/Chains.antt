@@ -11,8 +11,8 @@ use Rattle.order.specs.Graph.{Circular, has_circle}
 use Rattle.order.proofs.Circle.{circle-agrees}
 use Rattle.refusals.specs.Refusals.{Test, test, first_refusal}
 use Rattle.refusals.specs.declared.Refusal.TheVariants.{Circle}
-use Rattle.refusals.specs.declared.Verdict.{Verdict}
-use Rattle.refusals.specs.declared.Verdict.TheVariants.{Accepted, Refused}
+use Rattle.std.proofs.Common.{Err, Ok, Result}
+use Rattle.refusals.specs.declared.Refusal.{Refusal}
 use Rattle.refusals.proofs.Refusals.{and_then, refusal-append}
 use Rattle.wiring.specs.Signals.{dependence}
 use Rattle.netlist.specs.Netlist.{Netlist}
@@ -31,20 +31,20 @@ ready-passes f s c uneven rest g even allowed =
     rw (le-ltb (length s) (cell_size * f.components) g.long, good-no-bad f s g, le-ltb f.components f.components n, even, allowed, le-ltb (length c) (length c) m)
 
 -- where none of 1-7 is met, 8 decides
-circle-last : (file : List ℕ) → first_refusal (take 7 (file_tests file)) ≡ Accepted
-    → first_refusal (file_tests file) ≡ cond (has_circle (dependence (netlist_in file).table (netlist_in file).components) (2 * (netlist_in file).channels)) (Refused Circle) Accepted
+circle-last : (file : List ℕ) → first_refusal (take 7 (file_tests file)) ≡ Ok tt
+    → first_refusal (file_tests file) ≡ cond (has_circle (dependence (netlist_in file).table (netlist_in file).components) (2 * (netlist_in file).channels)) (Err Circle) (Ok tt)
 unfolding netlist_in
 circle-last file e =
     let last : List Test = test Circle (has_circle (dependence (netlist_in file).table (netlist_in file).components) (2 * (netlist_in file).channels)) ∷ [] in
-    refusal-append (take 7 (file_tests file)) last ∙ ap (λ (v : Verdict). and_then v (first_refusal last)) e
+    refusal-append (take 7 (file_tests file)) last ∙ ap (λ (v : Result Unit Refusal). and_then v (first_refusal last)) e
 
-met : (b : Bool) → cond b (Refused Circle) Accepted ≡ Refused Circle → b ≡ true
+met : (b : Bool) → ◌≡◌ {A = Result (Unit {0}) Refusal} (cond b (Err Circle) (Ok tt)) (Err Circle) → b ≡ true
 met true e = refl
 met false e = let z : ◌≡◌ {A = ℕ} 0 1 = cc in absurd (omega arith)
 
 -- and it is met exactly if the dependences hold a circle
-pub circle-refuses : (file : List ℕ) → first_refusal (take 7 (file_tests file)) ≡ Accepted
-    → (first_refusal (file_tests file) ≡ Refused Circle) ↔ Circular (dependence (netlist_in file).table (netlist_in file).components) (2 * (netlist_in file).channels)
+pub circle-refuses : (file : List ℕ) → first_refusal (take 7 (file_tests file)) ≡ Ok tt
+    → (first_refusal (file_tests file) ≡ Err Circle) ↔ Circular (dependence (netlist_in file).table (netlist_in file).components) (2 * (netlist_in file).channels)
 circle-refuses file e =
     let agrees = circle-agrees (dependence (netlist_in file).table (netlist_in file).components) (2 * (netlist_in file).channels) in
-    (λ r. agrees.0 (met _ (sym (circle-last file e) ∙ r)), λ c. circle-last file e ∙ ap (λ (b : Bool). cond b (Refused Circle) Accepted) (agrees.1 c))
+    (λ r. agrees.0 (met _ (sym (circle-last file e) ∙ r)), λ c. circle-last file e ∙ ap (λ (b : Bool). cond b (Err Circle) (Ok tt)) (agrees.1 c))

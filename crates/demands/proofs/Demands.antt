@@ -10,8 +10,8 @@ use lib.IntN.{ℤ}
 use borrow.Author.Tests.{le-ltb, eq-eqb}
 use Rattle.refusals.specs.Refusals.{Test, test, first_refusal}
 use Rattle.refusals.specs.declared.Refusal.TheVariants.{StateShort, BadState, ChoiceCount, BadChoice, ResultSpace}
-use Rattle.refusals.specs.declared.Verdict.{Verdict}
-use Rattle.refusals.specs.declared.Verdict.TheVariants.{Accepted, Refused}
+use Rattle.std.proofs.Common.{Err, Ok, Result}
+use Rattle.refusals.specs.declared.Refusal.{Refusal}
 use Rattle.refusals.proofs.Refusals.{and_then, refusal-append, then-accepted}
 use Rattle.netlist.specs.Netlist.{Netlist}
 use Rattle.reader.specs.File.{netlist_in, file_tests}
@@ -40,23 +40,23 @@ use Rattle.demands.proofs.Sums.{sums_kept}
 use Rattle.demands.proofs.ReadBack.{bytes_back, table-back, sum_is}
 
 -- ---- demand 3
-pub checked : (file p : List ℕ) (space : ℕ) → check_verdict file p space ≡ Accepted → judged (netlist_in file) p ≡ Accepted
+pub checked : (file p : List ℕ) (space : ℕ) → check_verdict file p space ≡ Ok tt → judged (netlist_in file) p ≡ Ok tt
 unfolding check_verdict judged
 checked file p space e =
     let f : Netlist = netlist_in file in
     let last : List Test = test ResultSpace (ltb space (8 * f.components)) ∷ [] in
     (then-accepted (first_refusal (judge_tests f p)) (first_refusal last) (sym (refusal-append (judge_tests f p) last) ∙ (after-file file (judge_tests f p ++ last) e).1)).0
 
-check-constant-is : (file p : List ℕ) (space : ℕ) → check_verdict file p space ≡ Accepted → check_constant file p space ≡ constant (netlist_in file) p
+check-constant-is : (file p : List ℕ) (space : ℕ) → check_verdict file p space ≡ Ok tt → check_constant file p space ≡ constant (netlist_in file) p
 unfolding check_constant constant_by
-check-constant-is file p space e = ap (λ (v : Verdict). constant_by v (netlist_in file) p) e
+check-constant-is file p space e = ap (λ (v : Result Unit Refusal). constant_by v (netlist_in file) p) e
 
-check-given : (file p : List ℕ) (space : ℕ) → first_refusal (file_tests file) ≡ Accepted → 8 * (netlist_in file).components ≤ space → judged (netlist_in file) p ≡ Accepted → check_verdict file p space ≡ Accepted
+check-given : (file p : List ℕ) (space : ℕ) → first_refusal (file_tests file) ≡ Ok tt → 8 * (netlist_in file).components ≤ space → judged (netlist_in file) p ≡ Ok tt → check_verdict file p space ≡ Ok tt
 unfolding check_verdict judged
 check-given file p space ok room e =
     let f : Netlist = netlist_in file in
     let last : List Test = test ResultSpace (ltb space (8 * f.components)) ∷ [] in
-    rest_of file ok (judge_tests f p ++ last) ∙ refusal-append (judge_tests f p) last ∙ ap (λ (v : Verdict). and_then v (first_refusal last)) e ∙ rw (le-ltb space (8 * f.components) room)
+    rest_of file ok (judge_tests f p ++ last) ∙ refusal-append (judge_tests f p) last ∙ ap (λ (v : Result Unit Refusal). and_then v (first_refusal last)) e ∙ rw (le-ltb space (8 * f.components) room)
 
 pub constant_sums : ConstantSums
 constant_sums file p space accepted state began calls = (sums_kept file p (checked file p space accepted) state began calls).1 ∙ sym (check-constant-is file p space accepted)
@@ -70,23 +70,23 @@ accepted_exactly file p space ok formed room =
     )
 
 -- ---- no call is refused because of the state
-abbrev Stateless : Verdict → Type 0
-Stateless v = (v ≡ Refused StateShort → ⊥) × ((k : ℕ) → v ≡ Refused (BadState k) → ⊥)
+abbrev Stateless : (Result Unit Refusal) → Type 0
+Stateless v = (v ≡ Err StateShort → ⊥) × ((k : ℕ) → v ≡ Err (BadState k) → ⊥)
 
 -- what is left once 21 and 22 are not met
-others : (a b c : Bool) (o : ℕ) → Stateless (cond a (Refused ChoiceCount) (cond b (Refused (BadChoice o)) (cond c (Refused ResultSpace) Accepted)))
+others : (a b c : Bool) (o : ℕ) → Stateless (cond a (Err ChoiceCount) (cond b (Err (BadChoice o)) (cond c (Err ResultSpace) (Ok tt))))
 others true b c o = (λ e. let z : ◌≡◌ {A = ℕ} 0 1 = cc in absurd (omega arith), λ k e. let z : ◌≡◌ {A = ℕ} 0 1 = cc in absurd (omega arith))
 others false true c o = (λ e. let z : ◌≡◌ {A = ℕ} 0 1 = cc in absurd (omega arith), λ k e. let z : ◌≡◌ {A = ℕ} 0 1 = cc in absurd (omega arith))
 others false false true o = (λ e. let z : ◌≡◌ {A = ℕ} 0 1 = cc in absurd (omega arith), λ k e. let z : ◌≡◌ {A = ℕ} 0 1 = cc in absurd (omega arith))
 others false false false o = (λ e. let z : ◌≡◌ {A = ℕ} 0 1 = cc in absurd (omega arith), λ k e. let z : ◌≡◌ {A = ℕ} 0 1 = cc in absurd (omega arith))
 
 good-passes : (f : Netlist) (s c : List ℕ) (uneven : Bool) (rest : List Test) → Good f s
-    → first_refusal (ready_tests f s c uneven ++ rest) ≡ cond uneven (Refused ChoiceCount) (cond (ltb (bad_choice f c) (length c)) (Refused (BadChoice (bad_choice f c))) (first_refusal rest))
+    → first_refusal (ready_tests f s c uneven ++ rest) ≡ cond uneven (Err ChoiceCount) (cond (ltb (bad_choice f c) (length c)) (Err (BadChoice (bad_choice f c))) (first_refusal rest))
 good-passes f s c uneven rest g =
     let n : f.components ≤ f.components = omega arith in
     rw (le-ltb (length s) (cell_size * f.components) g.long, good-no-bad f s g, le-ltb f.components f.components n)
 
-verdict-stateless : (file : List ℕ) → first_refusal (file_tests file) ≡ Accepted → (call : Call) (s : List ℕ) → Good (netlist_in file) s → Stateless (verdict_on file call s)
+verdict-stateless : (file : List ℕ) → first_refusal (file_tests file) ≡ Ok tt → (call : Call) (s : List ℕ) → Good (netlist_in file) s → Stateless (verdict_on file call s)
 unfolding start_verdict step_verdict run_verdict
 verdict-stateless file ok start s g =
     subst Stateless (sym (rest_of file ok (short_state (netlist_in file) (length s) ∷ []) ∙ rw (le-ltb (length s) (cell_size * (netlist_in file).components) g.long))) (others false false false 0)
@@ -137,26 +137,26 @@ run_accepted file state choices ok g whole each =
     ∙ ready-passes f state choices uneven [] g (ap not (eq-eqb (length choices % f.components) 0 whole)) (steps-no-bad f choices (facts file ok).2.some_rows whole each)
 
 -- ---- demand 3, from what a host sees
-bytes_read : (file p bytes : List ℕ) → check_verdict file p (length bytes / 8) ≡ Accepted → (u : ℕ) → u < 8 * (netlist_in file).components
+bytes_read : (file p bytes : List ℕ) → check_verdict file p (length bytes / 8) ≡ Ok tt → (u : ℕ) → u < 8 * (netlist_in file).components
     → entry_of_bytes (bytes_after_check file p bytes) u ≡ entry (netlist_in file) p u
 unfolding bytes_after_check bytes_by
 bytes_read file p bytes accepted u l =
     let f : Netlist = netlist_in file in
-    ap (λ (v : Verdict). entry_of_bytes (bytes_by v f p bytes) u) accepted ∙ bytes_back f p (checked file p (length bytes / 8) accepted) (drop (8 * (8 * f.components)) bytes) u l
+    ap (λ (v : Result Unit Refusal). entry_of_bytes (bytes_by v f p bytes) u) accepted ∙ bytes_back f p (checked file p (length bytes / 8) accepted) (drop (8 * (8 * f.components)) bytes) u l
 
-table-read : (file p : List ℕ) (table : List ℤ) → check_verdict file p (length table) ≡ Accepted → (u : ℕ) → u < 8 * (netlist_in file).components
+table-read : (file p : List ℕ) (table : List ℤ) → check_verdict file p (length table) ≡ Ok tt → (u : ℕ) → u < 8 * (netlist_in file).components
     → entry_of (weights_after_check file p table) u ≡ entry (netlist_in file) p u
 unfolding weights_after_check table_by
 table-read file p table accepted u l =
     let f : Netlist = netlist_in file in
-    ap (λ (v : Verdict). entry_of (table_by v f p table) u) accepted ∙ table-back f p (drop (8 * f.components) table) u l
+    ap (λ (v : Result Unit Refusal). entry_of (table_by v f p table) u) accepted ∙ table-back f p (drop (8 * f.components) table) u l
 
 pub weights_read : WeightsRead
 weights_read = (bytes_read, table-read)
 
 -- of any entries that are the weights
-pub sums-read : (file p : List ℕ) (space : ℕ) → check_verdict file p space ≡ Accepted → (entries : ℕ → ℤ) → ((u : ℕ) → u < 8 * (netlist_in file).components → entries u ≡ entry (netlist_in file) p u)
-    → (state : List ℕ) → start_verdict file (length state) ≡ Accepted → (calls : List Call)
+pub sums-read : (file p : List ℕ) (space : ℕ) → check_verdict file p space ≡ Ok tt → (entries : ℕ → ℤ) → ((u : ℕ) → u < 8 * (netlist_in file).components → entries u ≡ entry (netlist_in file) p u)
+    → (state : List ℕ) → start_verdict file (length state) ≡ Ok tt → (calls : List Call)
     → sum_read (netlist_in file) entries (state_after_all file calls (state_after_start file state)) ≡ check_constant file p space
 sums-read file p space accepted entries is state began calls =
     let few = (facts file (started-file file (length state) began).0).2.few_colours in

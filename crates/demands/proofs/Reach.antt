@@ -7,8 +7,8 @@ use native.Mathlib.Omega.{arith}
 use lib.ListN.{length, get_or, drop}
 use Rattle.digits.proofs.UpTo.{filled_at}
 use Rattle.refusals.specs.Refusals.{first_refusal, kept}
-use Rattle.refusals.specs.declared.Verdict.{Verdict}
-use Rattle.refusals.specs.declared.Verdict.TheVariants.{Accepted}
+use Rattle.std.proofs.Common.{Ok, Result}
+use Rattle.refusals.specs.declared.Refusal.{Refusal}
 use Rattle.netlist.specs.Netlist.{Netlist}
 use Rattle.netlist.specs.Accepted.{AcceptedNetlist}
 use Rattle.component.specs.Row.{has_colour}
@@ -35,7 +35,7 @@ use Rattle.calls.specs.Calls.{Call, state_after_all}
 use Rattle.calls.proofs.Calls.{calls-keep, runs-keep}
 use Rattle.demands.specs.Reach.{SmallestSets, SetsRead, MovesInside, MovesInsideRun}
 
-pub file-netlist : (file : List ℕ) → first_refusal (file_tests file) ≡ Accepted → AcceptedNetlist (netlist_in file)
+pub file-netlist : (file : List ℕ) → first_refusal (file_tests file) ≡ Ok tt → AcceptedNetlist (netlist_in file)
 file-netlist file ok = let x = facts file ok in record { ends = x.0; order = x.1; facts = x.2 }
 
 pub smallest_sets : SmallestSets
@@ -48,18 +48,18 @@ smallest_sets file ok =
     )
 
 pub sets_read : SetsRead
-unfolding reach_verdict sets_after_reach sets_by set_byte
+unfolding reach_verdict sets_after_reach set_byte
 sets_read file bytes accepted x d l m =
     let f : Netlist = netlist_in file in
     let h = file-netlist file (after-file file (reach_tests f (length bytes)) accepted).0 in
     let byte : has_colour (get_or (sets_after_reach file bytes) x 0) d ≡ reachable f x d =
-    ap (λ (v : Verdict). has_colour (get_or (sets_by v f bytes) x 0) d) accepted ∙ ap (λ (b : ℕ). has_colour b d) (filled_at (set_byte f) (drop f.channels bytes) 0 f.channels x l) ∙ has-byte (reachable f x) d m in (
+    ap (λ (v : Result Unit Refusal). has_colour (get_or (sets_by v f bytes) x 0) d) accepted ∙ ap (λ (b : ℕ). has_colour b d) (filled_at (set_byte f) (drop f.channels bytes) 0 f.channels x l) ∙ has-byte (reachable f x) d m in (
       λ e. let r = reachable-reaches f h.ends h.order h.facts x d l (sym byte ∙ e) in ((reaches-below f h.ends h.order h.facts r).1, r),
       λ r. byte ∙ reaches-reachable f h.ends h.order h.facts r.1,
     )
 
 -- ---- a start puts the colours of a state inside the sets, and a step keeps them there
-module _ (file state : List ℕ) (began : start_verdict file (length state) ≡ Accepted) (calls : List Call) where
+module _ (file state : List ℕ) (began : start_verdict file (length state) ≡ Ok tt) (calls : List Call) where
   abbrev f : Netlist
   f = netlist_in file
 
@@ -72,7 +72,7 @@ module _ (file state : List ℕ) (began : start_verdict file (length state) ≡ 
   can-step : (s c : List ℕ) → Good f s → Allowed f c → CanStep f net.ends net.order s c
   can-step s c g w = record { accepted = net.facts; good = g; allowed = w }
 
-  at-start : (s : List ℕ) → start_verdict file (length s) ≡ Accepted → Inside f (started f s)
+  at-start : (s : List ℕ) → start_verdict file (length s) ≡ Ok tt → Inside f (started f s)
   at-start s e = inside-start f net.ends net.order net.facts s
 
   at-step : (s c : List ℕ) → Good f s → Allowed f c → Inside f s → Inside f (next f s c)
@@ -83,17 +83,17 @@ module _ (file state : List ℕ) (began : start_verdict file (length state) ≡ 
   nothing-else s c k w = inside-moved f net.ends net.order s c (can-step s c k.0 w) k.1
 
   -- a step after the calls
-  module _ (choices out : List ℕ) (stepped : step_verdict file after choices (length out) ≡ Accepted) where
+  module _ (choices out : List ℕ) (stepped : step_verdict file after choices (length out) ≡ Ok tt) where
     byte : (x : ℕ) → x < f.channels → get_or (moves_after_step file after choices out) x 0 ≡ moved f after choices x
     unfolding moves_after_step moves
-    byte x l = ap (λ (v : Verdict). get_or (kept v (moves f after choices ++ drop f.channels out) out) x 0) stepped ∙ filled_at (moved f after choices) (drop f.channels out) 0 f.channels x l
+    byte x l = ap (λ (v : Result Unit Refusal). get_or (kept v (moves f after choices ++ drop f.channels out) out) x 0) stepped ∙ filled_at (moved f after choices) (drop f.channels out) 0 f.channels x l
 
     pub step-moves : (x d : ℕ) → x < f.channels → get_or (moves_after_step file after choices out) x 0 ≡ suc d → Reaches f x d
     step-moves x d l q =
         nothing-else after choices (calls-keep file (Inside f) at-start at-step state began calls) (step-allowed file after choices (length out) stepped) x d l (sym (byte x l) ∙ q)
 
   -- a step of a run after them
-  module _ (choices : List ℕ) (ran : run_verdict file after choices ≡ Accepted) (m : ℕ) (l : m < length choices / f.components) where
+  module _ (choices : List ℕ) (ran : run_verdict file after choices ≡ Ok tt) (m : ℕ) (l : m < length choices / f.components) where
     done : f.components * m ≤ length choices
     done =
         let n : f.components ≤ f.components = omega arith in

@@ -18,7 +18,7 @@ use Rattle.digits.proofs.UpTo.{filled_at}
 use Rattle.integers.specs.Sum.{sum_to}
 use Rattle.integers.proofs.Sum.{sum-cong}
 use Rattle.integers.proofs.Near.{nat_abs-sum, near_fits, if-near}
-use Rattle.refusals.specs.declared.Verdict.TheVariants.{Accepted}
+use Rattle.std.proofs.Common.{Ok}
 use Rattle.component.specs.Kind.{is_queue}
 use Rattle.component.specs.Row.{kind}
 use Rattle.component.specs.Limits.{most_colours}
@@ -71,14 +71,14 @@ entry-back bytes u z f at =
     ap (signed 64) e ∙ signed_back z f
 
 -- ---- the weights are near 0: 4,096 multipliers of 21 bits
-few-terms : (f : Netlist) (p : List ℕ) → judged f p ≡ Accepted → terms p ≤ 4096
+few-terms : (f : Netlist) (p : List ℕ) → judged f p ≡ Ok tt → terms p ≤ 4096
 few-terms f p e = let l = ltb-false 16384 (length p) (or_right (not (eqb (length p % 4) 0)) (ltb 16384 (length p)) (accepted-formed f p e).lengths) in omega arith
   where
     or_right : (a b : Bool) → (a || b) ≡ false → b ≡ false
     or_right true b h = absurd (true≢false h)
     or_right false b h = h
 
-module _ (f : Netlist) (p : List ℕ) (accepted : judged f p ≡ Accepted) where
+module _ (f : Netlist) (p : List ℕ) (accepted : judged f p ≡ Ok tt) where
   pub weight-near : (q d : ℕ) → nat_abs (weight f p q d) ≤ 2 ^ 40
   unfolding weight
   weight-near q d =

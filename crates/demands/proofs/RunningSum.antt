@@ -9,7 +9,8 @@ use lib.Seq.{get_or_at}
 use Rattle.digits.specs.Sum.{sum, negated}
 use Rattle.digits.proofs.Sum.{negated-wraps}
 use Rattle.refusals.specs.Refusals.{kept}
-use Rattle.refusals.specs.declared.Verdict.{Verdict}
+use Rattle.std.proofs.Common.{Result}
+use Rattle.refusals.specs.declared.Refusal.{Refusal}
 use Rattle.record.specs.Sizes.{file_size, row_size}
 use Rattle.record.specs.Table.{records}
 use Rattle.carried.specs.Carried.{check_place, carried_sum}
@@ -42,6 +43,6 @@ running_sum colours channels table memory ok =
     let i : Inside colours channels n = (pack-accepted colours channels table (length memory) ok).inside in
     let c : ℕ = colours - 1 in
     let e : c + 1 ≡ colours = omega (arith, i.some_colours) in
-    let written : file ≡ packed_file colours channels table n ++ rest = ap (λ (v : Verdict). kept v (packed_file colours channels table n ++ rest) memory) ok in
+    let written : file ≡ packed_file colours channels table n ++ rest = ap (λ (v : Result Unit Refusal). kept v (packed_file colours channels table n ++ rest) memory) ok in
     subst (λ (C : ℕ). file ≡ packed_file C channels table n ++ rest → CarriedIn file C channels table n) e
     (of_parts channels n table rest file c (omega (arith, i.few_colours)) (omega (arith, i.few_rows)) (omega (arith, i.few_channels))) written

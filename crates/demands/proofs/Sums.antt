@@ -9,7 +9,7 @@ use lib.IntN.{ℤ, pos, ◌*ℤ◌, zero-*ℤ}
 use borrow.Author.Tests.{eqb-true}
 use Rattle.integers.specs.Sum.{sum_to, same}
 use Rattle.integers.proofs.Sum.{sum-cong}
-use Rattle.refusals.specs.declared.Verdict.TheVariants.{Accepted}
+use Rattle.std.proofs.Common.{Ok}
 use Rattle.component.specs.Kind.{is_queue}
 use Rattle.component.specs.Row.{kind}
 use Rattle.component.proofs.ByKind.{is-queue}
@@ -67,7 +67,7 @@ sum-keeps f h p c s ch t i q =
     (record { inside = λ x d l m ne. inside-moved f h.ends h.order s ch t i x d l (transferred (moved f s ch x) d ne) }) ∙ q
 
 -- so after every list of calls the state is good, and the sum is the constant; and in each state inside a further run
-module _ (file p : List ℕ) (accepted : judged (netlist_in file) p ≡ Accepted) (state : List ℕ) (began : start_verdict file (length state) ≡ Accepted) (calls : List Call) where
+module _ (file p : List ℕ) (accepted : judged (netlist_in file) p ≡ Ok tt) (state : List ℕ) (began : start_verdict file (length state) ≡ Ok tt) (calls : List Call) where
   abbrev f : Netlist
   f = netlist_in file
 
@@ -80,7 +80,7 @@ module _ (file p : List ℕ) (accepted : judged (netlist_in file) p ≡ Accepted
   Kept : List ℕ → Type 0
   Kept s = (accepted_sum f p (counts s) ≡ constant f p) × Inside f s
 
-  at-start : (s : List ℕ) → start_verdict file (length s) ≡ Accepted → Kept (started f s)
+  at-start : (s : List ℕ) → start_verdict file (length s) ≡ Ok tt → Kept (started f s)
   unfolding Kept
   at-start s l = (start-sum f net.ends net.order net.facts p s, inside-start f net.ends net.order net.facts s)
 
@@ -94,7 +94,7 @@ module _ (file p : List ℕ) (accepted : judged (netlist_in file) p ≡ Accepted
   unfolding Kept
   sums_kept = let k = calls-keep file Kept at-start at-step state began calls in (k.0, k.1.0)
 
-  pub sums-inside : (choices : List ℕ) → run_verdict file after choices ≡ Accepted → (m : ℕ) → f.components * m ≤ length choices
+  pub sums-inside : (choices : List ℕ) → run_verdict file after choices ≡ Ok tt → (m : ℕ) → f.components * m ≤ length choices
       → Good f (after_steps f m choices after) × (accepted_sum f p (counts (after_steps f m choices after)) ≡ constant f p)
   unfolding Kept
   sums-inside choices ran m l = let k = runs-keep file Kept at-start at-step state began calls choices ran m l in (k.0, k.1.0)

@@ -1,7 +1,7 @@
 -- What is promised of the byte sum that pack carries: the theorem that proofs/RunningSum.antt proves.
 use Rattle.std.specs.Prelude.{◌≡◌, ℕ, ◌/◌, ◌%◌, ◌≤◌, List, ◌++◌, length, get_or, take}
 use Rattle.digits.specs.Sum.{sum, negated}
-use Rattle.refusals.specs.declared.Verdict.TheVariants.{Accepted}
+use Rattle.std.specs.Prelude.{Ok}
 use Rattle.record.specs.Sizes.{row_size}
 use Rattle.record.specs.Table.{records}
 use Rattle.carried.specs.Carried.{check_place, carried_sum}
@@ -16,5 +16,5 @@ CarriedIn file colours channels table n =
 
 -- So it is in the memory that pack leaves, for every accepted table.
 abbrev pub RunningSum : Type 0
-RunningSum = (colours channels : ℕ) (table memory : List ℕ) → packed colours channels table (length memory) ≡ Accepted
+RunningSum = (colours channels : ℕ) (table memory : List ℕ) → packed colours channels table (length memory) ≡ Ok tt
     → CarriedIn (packed_into colours channels table memory) colours channels table (length table / row_size)

@@ -1,30 +1,15 @@
--- Laws of Bool. Assumes nothing.
-use Rattle.std.proofs.Common.{◌≡◌, Bool, true, false, ◌&&◌, ◌||◌, sym, refl, true≢false}
-
-pub and_both : (a b : Bool) → (a && b) ≡ true → (a ≡ true) × (b ≡ true)
-and_both true b e = (refl, e)
-and_both false b e = absurd (true≢false (sym e))
-
-pub and-true : (a : Bool) → (a && true) ≡ a
-and-true true = refl
-and-true false = refl
-
-pub and-false : (a : Bool) → (a && false) ≡ false
-and-false true = refl
-and-false false = refl
+-- Laws of Bool: those of the library by the names that the crates above cite, and what it has not. Assumes nothing.
+use Rattle.std.proofs.Common.{◌≡◌, Bool, true, false, ◌||◌, refl, true≢false}
+pub use Rattle.std.proofs.Math.Bool.{and-true, and-false}
+pub use Rattle.std.proofs.lemmas.Bool.{and_parts as and_both}
+pub use Rattle.std.specs.Cmp.Derive.{both_true}
+pub use Rattle.std.proofs.Math.Bool.{and_comm as and-swap}
 
 pub or-false : (a b : Bool) → (a || b) ≡ false → (a ≡ false) × (b ≡ false)
 or-false true b e = absurd (true≢false e)
 or-false false b e = (refl, e)
 
-pub and-swap : (a b : Bool) → (a && b) ≡ (b && a)
-and-swap true b = sym (and-true b)
-and-swap false b = sym (and-false b)
-
--- a conjunction of what is true, a disjunction with it
-pub both_true : {a b : Bool} → a ≡ true → b ≡ true → (a && b) ≡ true
-both_true e q = rw (e, q)
-
+-- a disjunction with what is true
 pub or_left : (a b : Bool) → a ≡ true → (a || b) ≡ true
 or_left a b e = rw e
 

@@ -1,4 +1,4 @@
-// Numbers as packed digits, most significant first, byte sums, and copies.
+// Numbers as packed digits, most significant first, and byte sums.
 #![tactic(auto)]
 
 ghost use Rattle.std.specs.Prelude.{◌≡◌, ◌+◌, ◌%◌, ◌<◌, ◌≤◌, length, take};
@@ -6,69 +6,41 @@ ghost use Rattle.std.proofs.Math.Seq.{paste};
 ghost use Rattle.digits.specs.Packed.{joined, bytes};
 ghost use Rattle.digits.specs.Sum.{sum, negated};
 
-// A byte as a number of another width.
-pub fn wide(x: u8) -> usize
-    ensures { (result ≡ x) × (result < 256) }
-{
-    x as usize
-}
-
-pub fn widened(x: u8) -> u16
-    ensures { result ≡ x }
-{
-    x as u16
-}
-
-// The number that n bytes make from at on, the first the highest.
+/// The number that `n` bytes make from index `at` on, the first the highest.
+#[tactic(auto, using(crate::proofs::Words::word_fits, crate::proofs::Words::word_more))]
 pub fn word(s: &[u8], at: usize, n: usize) -> u64
     requires { (at + n ≤ length s.now) × (n ≤ 7) }
     ensures { result ≡ joined (bytes n) s.now at }
 {
-    let mut acc: u64 = 0;
-    let mut i: usize = 0;
-    while i < n {
-        acc = acc * 256 + s[at + i] as u64;
-        i += 1;
+    let mut number = 0;
+    for byte in &s[at..at + n] {
+        number = number * 256 + u64::from(*byte);
     }
-    acc
+    number
 }
 
-// A byte sum, carried on over the first n bytes of a slice, wrapping at 256.
-pub fn add_bytes(carried: u8, s: &[u8], n: usize) -> u8
-    requires { n ≤ length s.now }
-    ensures { result ≡ (carried + sum (take n s.now)) % 256 }
+/// A byte sum, carried on over the bytes of a slice, wrapping at 256.
+#[tactic(auto, using(crate::proofs::Sum::sum_more))]
+pub fn add_bytes(carried: u8, s: &[u8]) -> u8
+    ensures { result ≡ (carried + sum s.now) % 256 }
 {
     let mut total = carried;
-    let mut at: usize = 0;
-    while at < n {
-        total = std::num::wrapping_add_u8(total, s[at]);
-        at += 1;
+    for byte in s {
+        total = total.wrapping_add(*byte);
     }
     total
 }
 
-// The sum of all bytes, wrapping at 256.
+/// The sum of all bytes, wrapping at 256.
 pub fn byte_sum(s: &[u8]) -> u8
     ensures { result ≡ sum s.now % 256 }
 {
-    add_bytes(0, s, s.len())
+    add_bytes(0, s)
 }
 
-// The byte that brings a byte sum to 0.
+/// The byte that brings a byte sum to 0, wrapping at 256.
 pub fn negate(s: u8) -> u8
     ensures { result ≡ negated s }
 {
-    std::num::wrapping_sub_u8(0, s)
-}
-
-// Copies the first n bytes of a slice into another one, from index at on.
-pub fn copy(from: &[u8], n: usize, to: &mut [u8], at: usize)
-    requires { (n ≤ length from.now) × (at + n ≤ length to.old) }
-    ensures { to.new ≡ paste to.old at from.now n }
-{
-    let mut i: usize = 0;
-    while i < n {
-        to[at + i] = from[i];
-        i += 1;
-    }
+    s.wrapping_neg()
 }

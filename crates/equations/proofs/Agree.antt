@@ -1,4 +1,5 @@
 -- The code's account of an equation, `equation_named`, is the definition's, `has_equation` and `factor`. Assumes nothing.
+use Rattle.std.proofs.Common.{Result, Ok}
 use mathlib.Core.Path.{◌≡◌, refl, sym, ap, ◌∙◌}
 use mathlib.Core.Bool.{Bool, true, false, cond, not, ◌&&◌, ◌||◌, true≢false}
 use mathlib.Core.List.{List}
@@ -6,20 +7,23 @@ use Prim.Native.Nat.{ℕ, ◌+◌, ◌*◌, ◌-◌, ◌/◌, ◌%◌, ◌≤◌
 use native.Mathlib.Omega.{arith}
 use lib.Dec.{ltb, eqb}
 use lib.IntN.{ℤ, pos, ◌-ℤ◌, +ℤ_idr}
-use lib.ListN.{length}
 use borrow.Author.Tests.{ltb-true, ltb-false, lt-ltb, le-ltb, eqb-true, eqb-false, ne_eqb}
 use Rattle.digits.proofs.Bools.{and-true}
 use Rattle.integers.specs.Sum.{sum_to, same}
 use Rattle.integers.proofs.Sum.{sum-only, sum-zero, same-yes, same-no, cond-zero}
 use Rattle.record.specs.Table.{row}
-use Rattle.record.specs.Sizes.{row_size}
-use Rattle.component.specs.Kind.{Kind, source, sink, queue, function, fork, join, switch, merge, A, B, C}
+use Rattle.component.specs.declared.kinds.Kind.{Kind}
+use Rattle.component.specs.declared.kinds.Kind.TheVariants.{Source, Sink, Queue, Function, Fork, Join, Switch, Merge}
+use Rattle.component.specs.declared.kinds.Port.TheVariants.{A, B, C}
+use Rattle.component.specs.declared.kinds.Map.{Map}
+use Rattle.component.specs.declared.kinds.Map.TheVariants.{First, Second}
 use Rattle.component.specs.Row.{kind, port, map_of, first_map, second_map, mask, masked}
 use Rattle.component.specs.Facts.{RowFacts}
 use Rattle.component.specs.Limits.{most_channels, most_colours}
 use Rattle.netlist.specs.Netlist.{Netlist, row_of}
 use Rattle.equations.specs.Equations.{Side, flow, mapped_to, all_of, none, side_if, less, side, has_index, has_equation, factor}
-use Rattle.equations.specs.Numbers.{pick, missing, low_equation, high_equation, equation_of, equation_at, equation_named, name_verdict, equation_verdict, mapped_factor, all_factor, factor_of, numbered, InTable, mapped_flows, switch_flows}
+use Rattle.equations.specs.Numbers.{missing, low_equation, high_equation, equation_of, equation_at, equation_named, name_verdict, equation_verdict, mapped_factor, all_factor, factor_of, equation_factor, numbered, NamedIn, mapped_flows, switch_flows}
+use Rattle.refusals.specs.declared.Refusal.{Refusal}
 use Rattle.equations.specs.declared.Equation.{Equation}
 use Rattle.equations.specs.declared.Equation.TheVariants.{One, Two, Three, Mapped, All}
 
@@ -62,9 +66,9 @@ module _ (c : ℕ) (h : c ≤ most_colours) (y : ℕ) (v : ℕ) where
   all-number = flows-number (λ d. true) ∙ ap (λ (b : Bool). cond (ltb (v % 8) c) (cond b (pos 1) (pos 0)) (pos 0)) (and-true (eqb (v / 8) y))
 
   -- those that a map takes to e
-  mapped-number : (t : List ℕ) (q : ℕ) (second : Bool) (e : ℕ) → mapped_factor t c (8 * y) q second e v ≡ numbered c (mapped_to y (map_of second (row t q)) e) v
+  mapped-number : (t : List ℕ) (q : ℕ) (map : Map) (e : ℕ) → mapped_factor t c (8 * y) q map e v ≡ numbered c (mapped_to y (map_of map (row t q)) e) v
   unfolding mapped_factor numbered
-  mapped-number t q second e = flows-number (λ d. eqb (map_of second (row t q) d) e)
+  mapped-number t q map e = flows-number (λ d. eqb (map_of map (row t q) d) e)
 
 -- a difference, by number
 less-number : (c : ℕ) (a b : Side) (v : ℕ) → numbered c (less a b) v ≡ numbered c a v -ℤ numbered c b v
@@ -80,9 +84,9 @@ unfolding numbered
 none_number c v = cond-zero (ltb (v % 8) c) (pos 0) refl
 
 -- ---- the code's equation, whether the definition has one, and its side
-pub record Agrees (t : List ℕ) (c k : ℕ) (e : Equation) (b : Bool) (s : Side) : Type 0 where
+pub record Agrees (t : List ℕ) (c k : ℕ) (e : Result Equation Refusal) (b : Bool) (s : Side) : Type 0 where
   pub verdict : equation_verdict e ≡ name_verdict b k
-  pub factors : (v : ℕ) → factor_of t c e v ≡ numbered c (side_if b s) v
+  pub factors : (v : ℕ) → equation_factor t c e v ≡ numbered c (side_if b s) v
 
 module _ (t : List ℕ) (c : ℕ) (h : c ≤ most_colours) (k : ℕ) where
   none-agrees : (b : Bool) (s : Side) → b ≡ false → Agrees t c k (missing k) b s
@@ -91,20 +95,20 @@ module _ (t : List ℕ) (c : ℕ) (h : c ≤ most_colours) (k : ℕ) where
   none-agrees false s e = record { verdict = refl; factors = λ v. sym (none_number c v) }
 
   -- an index that is below C, or not
-  guard : (b : Bool) {e : Equation} {s : Side} → (b ≡ true → Agrees t c k e true s) → Agrees t c k (pick b e (missing k)) b s
+  guard : (b : Bool) {e : Result Equation Refusal} {s : Side} → (b ≡ true → Agrees t c k e true s) → Agrees t c k (cond b e (missing k)) b s
   guard true m = m refl
   guard false {e} {s} m = none-agrees false s refl
 
-  guard-not : (b m : Bool) {e : Equation} {s : Side} → (b ≡ true → Agrees t c k e true s) → Agrees t c k (pick b (pick m (missing k) e) (missing k)) (b && not m) s
+  guard-not : (b m : Bool) {e : Result Equation Refusal} {s : Side} → (b ≡ true → Agrees t c k e true s) → Agrees t c k (cond b (cond m (missing k) e) (missing k)) (b && not m) s
   guard-not true true {e} {s} n = none-agrees false s refl
   guard-not true false n = n refl
   guard-not false m {e} {s} n = none-agrees false s refl
 
-  one : (y d : ℕ) → d < c → Agrees t c k (One (8 * y + d)) true (flow y d)
+  one : (y d : ℕ) → d < c → Agrees t c k (Ok (One (8 * y + d))) true (flow y d)
   unfolding factor_of
   one y d l = record { verdict = refl; factors = λ v. flow-number c h y v d l }
 
-  two : (x y d : ℕ) → d < c → Agrees t c k (Two (8 * x + d) (8 * y + d)) true (less (flow x d) (flow y d))
+  two : (x y d : ℕ) → d < c → Agrees t c k (Ok (Two (8 * x + d) (8 * y + d))) true (less (flow x d) (flow y d))
   unfolding factor_of
   two x y d l = record {
     verdict = refl;
@@ -112,7 +116,7 @@ module _ (t : List ℕ) (c : ℕ) (h : c ≤ most_colours) (k : ℕ) where
         ∙ sym (less-number c (flow x d) (flow y d) v);
   }
 
-  three : (x y z d : ℕ) → d < c → Agrees t c k (Three (8 * x + d) (8 * y + d) (8 * z + d)) true (less (less (flow x d) (flow y d)) (flow z d))
+  three : (x y z d : ℕ) → d < c → Agrees t c k (Ok (Three (8 * x + d) (8 * y + d) (8 * z + d))) true (less (less (flow x d) (flow y d)) (flow z d))
   unfolding factor_of
   three x y z d l = record {
     verdict = refl;
@@ -120,15 +124,15 @@ module _ (t : List ℕ) (c : ℕ) (h : c ≤ most_colours) (k : ℕ) where
         ∙ sym (less-number c (less (flow x d) (flow y d)) (flow z d) v);
   }
 
-  mapped-agrees : (x y q : ℕ) (second : Bool) (e : ℕ) → e < c → Agrees t c k (Mapped (8 * x + e) (8 * y) q second e) true (less (flow x e) (mapped_to y (map_of second (row t q)) e))
+  mapped-agrees : (x y q : ℕ) (map : Map) (e : ℕ) → e < c → Agrees t c k (Ok (Mapped (8 * x + e) (8 * y) q map e)) true (less (flow x e) (mapped_to y (map_of map (row t q)) e))
   unfolding factor_of
-  mapped-agrees x y q second e l = record {
+  mapped-agrees x y q map e l = record {
     verdict = refl;
-    factors = λ v. ap (λ (z : ℤ). z -ℤ mapped_factor t c (8 * y) q second e v) (flow-number c h x v e l) ∙ ap (λ (z : ℤ). numbered c (flow x e) v -ℤ z) (mapped-number c h y v t q second e)
-        ∙ sym (less-number c (flow x e) (mapped_to y (map_of second (row t q)) e) v);
+    factors = λ v. ap (λ (z : ℤ). z -ℤ mapped_factor t c (8 * y) q map e v) (flow-number c h x v e l) ∙ ap (λ (z : ℤ). numbered c (flow x e) v -ℤ z) (mapped-number c h y v t q map e)
+        ∙ sym (less-number c (flow x e) (mapped_to y (map_of map (row t q)) e) v);
   }
 
-  all-agrees : (x y : ℕ) → Agrees t c k (All (8 * x) (8 * y)) true (less (all_of x) (all_of y))
+  all-agrees : (x y : ℕ) → Agrees t c k (Ok (All (8 * x) (8 * y))) true (less (all_of x) (all_of y))
   unfolding factor_of
   all-agrees x y = record {
     verdict = refl;
@@ -136,7 +140,7 @@ module _ (t : List ℕ) (c : ℕ) (h : c ≤ most_colours) (k : ℕ) where
         ∙ sym (less-number c (all_of x) (all_of y) v);
   }
 
-  sent : (goes : Bool) (x y d : ℕ) → d < c → Agrees t c k (pick goes (Two (8 * x + d) (8 * y + d)) (One (8 * x + d))) true (less (flow x d) (side_if goes (flow y d)))
+  sent : (goes : Bool) (x y d : ℕ) → d < c → Agrees t c k (cond goes (Ok (Two (8 * x + d) (8 * y + d))) (Ok (One (8 * x + d)))) true (less (flow x d) (side_if goes (flow y d)))
   unfolding factor_of
   sent true x y d l = two x y d l
   sent false x y d l = record {
@@ -154,25 +158,25 @@ module _ (t : List ℕ) (c : ℕ) (h : c ≤ most_colours) (k : ℕ) where
       not-8 : eqb i 8 ≡ false
       not-8 = ne_eqb i 8 (λ e. omega (arith, ltb-true i 8 low))
 
-      low-join : (b q : Bool) (u : Side) {e : Equation} {s : Side} → q ≡ false → (b ≡ true → Agrees t c k e true s) → Agrees t c k (pick b e (missing k)) (b || q) (cond q u s)
+      low-join : (b q : Bool) (u : Side) {e : Result Equation Refusal} {s : Side} → q ≡ false → (b ≡ true → Agrees t c k e true s) → Agrees t c k (cond b e (missing k)) (b || q) (cond q u s)
       low-join true false u e m = m refl
       low-join false false u {e} {s} f m = none-agrees false s refl
       low-join b true u f m = absurd (true≢false f)
 
-      low_half : (a b d : Bool) (u : Side) {e : Equation} {s : Side} → a ≡ true → (b ≡ true → Agrees t c k e true s) → Agrees t c k (pick b e (missing k)) (cond a b d) (cond a s u)
+      low_half : (a b d : Bool) (u : Side) {e : Result Equation Refusal} {s : Side} → a ≡ true → (b ≡ true → Agrees t c k e true s) → Agrees t c k (cond b e (missing k)) (cond a b d) (cond a s u)
       low_half true b d u e m = guard b m
       low_half false b d u e m = absurd (true≢false (sym e))
 
       low-kind : (n : Kind) → Agrees t c k (low_equation n (port r A) (port r B) (port r C) (mask r) q c i k) (has_index n r c i) (side n r i)
       unfolding low_equation has_index side
-      low-kind source = guard-not (ltb i c) (masked r i) (λ b. one (port r A) i (ltb-true i c b))
-      low-kind sink = none-agrees false none refl
-      low-kind queue = guard (ltb i c) (λ b. two (port r B) (port r A) i (ltb-true i c b))
-      low-kind function = guard (ltb i c) (λ b. mapped-agrees (port r B) (port r A) q false i (ltb-true i c b))
-      low-kind fork = low_half (ltb i 8) (ltb i c) (ltb (i - 8) c) (less (flow (port r C) (i - 8)) (mapped_to (port r A) (second_map r) (i - 8))) low (λ b. mapped-agrees (port r B) (port r A) q false i (ltb-true i c b))
-      low-kind join = low-join (ltb i c) (eqb i 8) (less (all_of (port r A)) (all_of (port r B))) not-8 (λ b. mapped-agrees (port r C) (port r A) q false i (ltb-true i c b))
-      low-kind switch = low_half (ltb i 8) (ltb i c) (ltb (i - 8) c) (less (flow (port r C) (i - 8)) (side_if (not (masked r (i - 8))) (flow (port r A) (i - 8)))) low (λ b. sent (masked r i) (port r B) (port r A) i (ltb-true i c b))
-      low-kind merge = guard (ltb i c) (λ b. three (port r C) (port r A) (port r B) i (ltb-true i c b))
+      low-kind Source = guard-not (ltb i c) (masked r i) (λ b. one (port r A) i (ltb-true i c b))
+      low-kind Sink = none-agrees false none refl
+      low-kind Queue = guard (ltb i c) (λ b. two (port r B) (port r A) i (ltb-true i c b))
+      low-kind Function = guard (ltb i c) (λ b. mapped-agrees (port r B) (port r A) q First i (ltb-true i c b))
+      low-kind Fork = low_half (ltb i 8) (ltb i c) (ltb (i - 8) c) (less (flow (port r C) (i - 8)) (mapped_to (port r A) (second_map r) (i - 8))) low (λ b. mapped-agrees (port r B) (port r A) q First i (ltb-true i c b))
+      low-kind Join = low-join (ltb i c) (eqb i 8) (less (all_of (port r A)) (all_of (port r B))) not-8 (λ b. mapped-agrees (port r C) (port r A) q First i (ltb-true i c b))
+      low-kind Switch = low_half (ltb i 8) (ltb i c) (ltb (i - 8) c) (less (flow (port r C) (i - 8)) (side_if (not (masked r (i - 8))) (flow (port r A) (i - 8)))) low (λ b. sent (masked r i) (port r B) (port r A) i (ltb-true i c b))
+      low-kind Merge = guard (ltb i c) (λ b. three (port r C) (port r A) (port r B) i (ltb-true i c b))
 
     -- an index from 8 on
     module _ (high : ltb i 8 ≡ false) where
@@ -183,25 +187,25 @@ module _ (t : List ℕ) (c : ℕ) (h : c ≤ most_colours) (k : ℕ) where
       past-and true m s e = absurd (true≢false e)
       past-and false m s e = none-agrees false s refl
 
-      high_half : (a b d : Bool) (s : Side) {e : Equation} {u : Side} → a ≡ false → (d ≡ true → Agrees t c k e true u) → Agrees t c k (pick d e (missing k)) (cond a b d) (cond a s u)
+      high_half : (a b d : Bool) (s : Side) {e : Result Equation Refusal} {u : Side} → a ≡ false → (d ≡ true → Agrees t c k e true u) → Agrees t c k (cond d e (missing k)) (cond a b d) (cond a s u)
       high_half true b d s e m = absurd (true≢false e)
       high_half false b d s e m = guard d m
 
-      high-join : (b q : Bool) (s : Side) {e : Equation} {u : Side} → b ≡ false → Agrees t c k e true u → Agrees t c k (pick q e (missing k)) (b || q) (cond q u s)
+      high-join : (b q : Bool) (s : Side) {e : Result Equation Refusal} {u : Side} → b ≡ false → Agrees t c k e true u → Agrees t c k (cond q e (missing k)) (b || q) (cond q u s)
       high-join true q s e m = absurd (true≢false e)
       high-join false true s e m = m
       high-join false false s f m = none-agrees false s refl
 
       high-kind : (n : Kind) → Agrees t c k (high_equation n (port r A) (port r B) (port r C) (mask r) q c i k) (has_index n r c i) (side n r i)
       unfolding high_equation has_index side
-      high-kind source = past-and (ltb i c) (not (masked r i)) (flow (port r A) i) past
-      high-kind sink = none-agrees false none refl
-      high-kind queue = none-agrees (ltb i c) (side queue r i) past
-      high-kind function = none-agrees (ltb i c) (side function r i) past
-      high-kind fork = high_half (ltb i 8) (ltb i c) (ltb (i - 8) c) (less (flow (port r B) i) (mapped_to (port r A) (first_map r) i)) high (λ b. mapped-agrees (port r C) (port r A) q true (i - 8) (ltb-true (i - 8) c b))
-      high-kind join = high-join (ltb i c) (eqb i 8) (less (flow (port r C) i) (mapped_to (port r A) (first_map r) i)) past (all-agrees (port r A) (port r B))
-      high-kind switch = high_half (ltb i 8) (ltb i c) (ltb (i - 8) c) (less (flow (port r B) i) (side_if (masked r i) (flow (port r A) i))) high (λ b. sent (not (masked r (i - 8))) (port r C) (port r A) (i - 8) (ltb-true (i - 8) c b))
-      high-kind merge = none-agrees (ltb i c) (side merge r i) past
+      high-kind Source = past-and (ltb i c) (not (masked r i)) (flow (port r A) i) past
+      high-kind Sink = none-agrees false none refl
+      high-kind Queue = none-agrees (ltb i c) (side Queue r i) past
+      high-kind Function = none-agrees (ltb i c) (side Function r i) past
+      high-kind Fork = high_half (ltb i 8) (ltb i c) (ltb (i - 8) c) (less (flow (port r B) i) (mapped_to (port r A) (first_map r) i)) high (λ b. mapped-agrees (port r C) (port r A) q Second (i - 8) (ltb-true (i - 8) c b))
+      high-kind Join = high-join (ltb i c) (eqb i 8) (less (flow (port r C) i) (mapped_to (port r A) (first_map r) i)) past (all-agrees (port r A) (port r B))
+      high-kind Switch = high_half (ltb i 8) (ltb i c) (ltb (i - 8) c) (less (flow (port r B) i) (side_if (masked r i) (flow (port r A) i))) high (λ b. sent (not (masked r (i - 8))) (port r C) (port r A) (i - 8) (ltb-true (i - 8) c b))
+      high-kind Merge = none-agrees (ltb i c) (side Merge r i) past
 
       -- none from 16 on
       module _ (out : ltb i 16 ≡ false) where
@@ -214,17 +218,17 @@ module _ (t : List ℕ) (c : ℕ) (h : c ≤ most_colours) (k : ℕ) where
 
         out-kind : (n : Kind) → has_index n r c i ≡ false
         unfolding has_index
-        out-kind source = ap (λ (b : Bool). b && not (masked r i)) past
-        out-kind sink = refl
-        out-kind queue = past
-        out-kind function = past
-        out-kind fork = out-half (ltb i 8) (ltb i c) (ltb (i - 8) c) high past-half
-        out-kind join = ap (λ (b : Bool). b || eqb i 8) past ∙ ne_eqb i 8 (λ e. omega (arith, ltb-false i 16 out))
-        out-kind switch = out-half (ltb i 8) (ltb i c) (ltb (i - 8) c) high past-half
-        out-kind merge = past
+        out-kind Source = ap (λ (b : Bool). b && not (masked r i)) past
+        out-kind Sink = refl
+        out-kind Queue = past
+        out-kind Function = past
+        out-kind Fork = out-half (ltb i 8) (ltb i c) (ltb (i - 8) c) high past-half
+        out-kind Join = ap (λ (b : Bool). b || eqb i 8) past ∙ ne_eqb i 8 (λ e. omega (arith, ltb-false i 16 out))
+        out-kind Switch = out-half (ltb i 8) (ltb i c) (ltb (i - 8) c) high past-half
+        out-kind Merge = past
 
     by_index : (n : Kind) (a b : Bool) → ltb i 8 ≡ a → ltb i 16 ≡ b
-        → Agrees t c k (pick a (low_equation n (port r A) (port r B) (port r C) (mask r) q c i k) (pick b (high_equation n (port r A) (port r B) (port r C) (mask r) q c i k) (missing k))) (has_index n r c i) (side n r i)
+        → Agrees t c k (cond a (low_equation n (port r A) (port r B) (port r C) (mask r) q c i k) (cond b (high_equation n (port r A) (port r B) (port r C) (mask r) q c i k) (missing k))) (has_index n r c i) (side n r i)
     by_index n true b ea eb = low-kind ea n
     by_index n false true ea eb = high-kind ea n
     by_index n false false ea eb = none-agrees (has_index n r c i) (side n r i) (out-kind ea eb n)
@@ -234,49 +238,49 @@ module _ (t : List ℕ) (c : ℕ) (h : c ≤ most_colours) (k : ℕ) where
     equation-agrees = by_index (kind r) (ltb i 8) (ltb i 16) refl refl
 
     -- every flow is in the table of sums
-    module _ (a : port r A < most_channels) (b : port r B < most_channels) (d : port r C < most_channels) (room : row_size * q + row_size ≤ length t) where
-      none_within : InTable t (missing k)
-      none_within = record { within = tt }
+    module _ (a : port r A < most_channels) (b : port r B < most_channels) (d : port r C < most_channels) {rows : ℕ} (known : q < rows) where
+      none_within : NamedIn rows (missing k)
+      none_within = record { in_table = tt }
 
-      pick-within : (u : Bool) {e f : Equation} → (u ≡ true → InTable t e) → (u ≡ false → InTable t f) → InTable t (pick u e f)
+      pick-within : (u : Bool) {e f : Result Equation Refusal} → (u ≡ true → NamedIn rows e) → (u ≡ false → NamedIn rows f) → NamedIn rows (cond u e f)
       pick-within true m n = m refl
       pick-within false m n = n refl
 
       -- an equation of an index below a bound, or none
-      low-within : (n j : ℕ) (e : Equation) → (j < n → InTable t e) → InTable t (pick (ltb j n) e (missing k))
+      low-within : (n j : ℕ) (e : Result Equation Refusal) → (j < n → NamedIn rows e) → NamedIn rows (cond (ltb j n) e (missing k))
       low-within n j e m = pick-within (ltb j n) (λ l. m (ltb-true j n l)) (λ l. none_within)
 
-      mapped-within : (x j : ℕ) (second : Bool) → x < most_channels → j < 8 → InTable t (mapped_flows x (port r A) second q c j k)
-      mapped-within x j second l m = low-within c j (Mapped (8 * x + j) (8 * port r A) q second j) (λ n. record { within = (omega arith, omega arith, room) })
+      mapped-within : (x j : ℕ) (map : Map) → x < most_channels → j < 8 → NamedIn rows (mapped_flows x (port r A) map q c j k)
+      mapped-within x j map l m = low-within c j (Ok (Mapped (8 * x + j) (8 * port r A) q map j)) (λ n. record { in_table = record { within = (omega arith, omega arith, known) } })
 
-      sent-within : (x j : ℕ) (goes : Bool) → x < most_channels → j < 8 → InTable t (switch_flows x (port r A) goes c j k)
-      sent-within x j goes l m = low-within c j (pick goes (Two (8 * x + j) (8 * port r A + j)) (One (8 * x + j)))
-          (λ n. pick-within goes (λ g. record { within = (omega arith, omega arith) }) (λ g. record { within = omega arith }))
+      sent-within : (x j : ℕ) (goes : Bool) → x < most_channels → j < 8 → NamedIn rows (switch_flows x (port r A) goes c j k)
+      sent-within x j goes l m = low-within c j (cond goes (Ok (Two (8 * x + j) (8 * port r A + j))) (Ok (One (8 * x + j))))
+          (λ n. pick-within goes (λ g. record { in_table = record { within = (omega arith, omega arith) } }) (λ g. record { in_table = record { within = omega arith } }))
 
-      within_low : (n : Kind) → i < 8 → InTable t (low_equation n (port r A) (port r B) (port r C) (mask r) q c i k)
+      within_low : (n : Kind) → i < 8 → NamedIn rows (low_equation n (port r A) (port r B) (port r C) (mask r) q c i k)
       unfolding low_equation
-      within_low source l =
-          low-within c i (pick (masked r i) (missing k) (One (8 * port r A + i))) (λ m. pick-within (masked r i) (λ n. none_within) (λ n. record { within = omega arith }))
-      within_low sink l = none_within
-      within_low queue l = low-within c i (Two (8 * port r B + i) (8 * port r A + i)) (λ m. record { within = (omega arith, omega arith) })
-      within_low function l = mapped-within (port r B) i false b l
-      within_low fork l = mapped-within (port r B) i false b l
-      within_low join l = mapped-within (port r C) i false d l
-      within_low switch l = sent-within (port r B) i (masked r i) b l
-      within_low merge l = low-within c i (Three (8 * port r C + i) (8 * port r A + i) (8 * port r B + i)) (λ m. record { within = (omega arith, omega arith, omega arith) })
+      within_low Source l =
+          low-within c i (cond (masked r i) (missing k) (Ok (One (8 * port r A + i)))) (λ m. pick-within (masked r i) (λ n. none_within) (λ n. record { in_table = record { within = omega arith } }))
+      within_low Sink l = none_within
+      within_low Queue l = low-within c i (Ok (Two (8 * port r B + i) (8 * port r A + i))) (λ m. record { in_table = record { within = (omega arith, omega arith) } })
+      within_low Function l = mapped-within (port r B) i First b l
+      within_low Fork l = mapped-within (port r B) i First b l
+      within_low Join l = mapped-within (port r C) i First d l
+      within_low Switch l = sent-within (port r B) i (masked r i) b l
+      within_low Merge l = low-within c i (Ok (Three (8 * port r C + i) (8 * port r A + i) (8 * port r B + i))) (λ m. record { in_table = record { within = (omega arith, omega arith, omega arith) } })
 
-      within-high : (n : Kind) → i < 16 → InTable t (high_equation n (port r A) (port r B) (port r C) (mask r) q c i k)
+      within-high : (n : Kind) → i < 16 → NamedIn rows (high_equation n (port r A) (port r B) (port r C) (mask r) q c i k)
       unfolding high_equation
-      within-high source l = none_within
-      within-high sink l = none_within
-      within-high queue l = none_within
-      within-high function l = none_within
-      within-high fork l = mapped-within (port r C) (i - 8) true d (omega arith)
-      within-high join l = pick-within (eqb i 8) (λ n. record { within = (omega arith, omega arith) }) (λ n. none_within)
-      within-high switch l = sent-within (port r C) (i - 8) (not (masked r (i - 8))) d (omega arith)
-      within-high merge l = none_within
+      within-high Source l = none_within
+      within-high Sink l = none_within
+      within-high Queue l = none_within
+      within-high Function l = none_within
+      within-high Fork l = mapped-within (port r C) (i - 8) Second d (omega arith)
+      within-high Join l = pick-within (eqb i 8) (λ n. record { in_table = record { within = (omega arith, omega arith) } }) (λ n. none_within)
+      within-high Switch l = sent-within (port r C) (i - 8) (not (masked r (i - 8))) d (omega arith)
+      within-high Merge l = none_within
 
-      equation-within : InTable t (equation_at t q c i k)
+      equation-within : NamedIn rows (equation_at t q c i k)
       unfolding equation_at equation_of
       equation-within =
           (pick-within (ltb i 8) (λ l. within_low (kind r) (ltb-true i 8 l)) (λ l. low-within 16 i (high_equation (kind r) (port r A) (port r B) (port r C) (mask r) q c i k) (within-high (kind r))))
@@ -288,25 +292,25 @@ module _ (f : Netlist) (few : f.colours ≤ most_colours) (q i k : ℕ) where
   unfolding equation_named has_equation
   named-agrees = go (ltb q f.components)
     where
-      go : (b : Bool) → Agrees f.table f.colours k (pick b (equation_at f.table q f.colours i k) (missing k)) (b && has_index (kind (row_of f q)) (row_of f q) f.colours i) (side (kind (row_of f q)) (row_of f q) i)
+      go : (b : Bool) → Agrees f.table f.colours k (cond b (equation_at f.table q f.colours i k) (missing k)) (b && has_index (kind (row_of f q)) (row_of f q) f.colours i) (side (kind (row_of f q)) (row_of f q) i)
       go true = equation-agrees f.table f.colours few k q i
       go false = none-agrees f.table f.colours few k false (side (kind (row_of f q)) (row_of f q) i) refl
 
   pub named-verdict : equation_verdict (equation_named f q i k) ≡ name_verdict (has_equation f q i) k
   named-verdict = named-agrees.verdict
 
-  pub named-factor : (v : ℕ) → factor_of f.table f.colours (equation_named f q i k) v ≡ numbered f.colours (factor f q i) v
+  pub named-factor : (v : ℕ) → equation_factor f.table f.colours (equation_named f q i k) v ≡ numbered f.colours (factor f q i) v
   unfolding factor
   named-factor v = named-agrees.factors v
 
-  pub named-within : f.channels ≤ most_channels → row_size * f.components ≤ length f.table → ((j : ℕ) → j < f.components → RowFacts f.colours f.channels (row_of f j)) → InTable f.table (equation_named f q i k)
+  pub named-within : f.channels ≤ most_channels → ((j : ℕ) → j < f.components → RowFacts f.colours f.channels (row_of f j)) → NamedIn f.components (equation_named f q i k)
   unfolding equation_named
-  named-within few-channels long rows = go (ltb q f.components) refl
+  named-within few-channels rows = go (ltb q f.components) refl
     where
-      go : (b : Bool) → ltb q f.components ≡ b → InTable f.table (pick b (equation_at f.table q f.colours i k) (missing k))
+      go : (b : Bool) → ltb q f.components ≡ b → NamedIn f.components (cond b (equation_at f.table q f.colours i k) (missing k))
       go true e =
           let l = ltb-true q f.components e in
           let r = rows q l in
           equation-within f.table f.colours few k q i
-          (omega (arith, r.ports A)) (omega (arith, r.ports B)) (omega (arith, r.ports C)) (omega arith)
-      go false e = record { within = tt }
+          (omega (arith, r.ports A)) (omega (arith, r.ports B)) (omega (arith, r.ports C)) l
+      go false e = record { in_table = tt }

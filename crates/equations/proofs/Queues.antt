@@ -5,7 +5,8 @@ use Prim.Native.Nat.{ℕ, ◌<◌}
 use lib.Dec.{ltb}
 use borrow.Author.Tests.{ltb-true, lt-ltb}
 use Rattle.digits.proofs.Bools.{and_both}
-use Rattle.component.specs.Kind.{Kind, is_queue}
+use Rattle.component.specs.declared.kinds.Kind.{Kind}
+use Rattle.component.specs.Kind.{is_queue}
 use Rattle.component.specs.Row.{kind}
 use Rattle.component.proofs.ByKind.{is-queue}
 use Rattle.netlist.specs.Netlist.{Netlist, row_of}

@@ -1,7 +1,9 @@
 -- Flows and the check: the equations of a component, by kind and index. L(x,d) counts transfers of colour d on x since start.
 -- The left side of an equation is given by the factor of each L(x,d) in it; a queue's n stands beside it.
 use Rattle.std.specs.Prelude.{Bool, true, false, cond, not, ◌&&◌, ◌||◌, List, ℕ, ◌-◌, ltb, eqb, ℤ, pos, ◌-ℤ◌}
-use Rattle.component.specs.Kind.{Kind, source, sink, queue, function, fork, join, switch, merge, A, B, C}
+use Rattle.component.specs.declared.kinds.Kind.{Kind}
+use Rattle.component.specs.declared.kinds.Kind.TheVariants.{Source, Sink, Queue, Function, Fork, Join, Switch, Merge}
+use Rattle.component.specs.declared.kinds.Port.TheVariants.{A, B, C}
 use Rattle.component.specs.Row.{kind, port, first_map, second_map, masked}
 use Rattle.netlist.specs.Netlist.{Netlist, row_of}
 
@@ -40,27 +42,27 @@ by_half a b i = cond (ltb i 8) (a i) (b (i - 8))
 
 -- |equation|
 unfoldable pub side : Kind → List ℕ → ℕ → Side
-side source r d = flow (port r A) d
-side sink r i = none
-side queue r d = less (flow (port r B) d) (flow (port r A) d)
-side function r e = less (flow (port r B) e) (mapped_to (port r A) (first_map r) e)
-side fork r i =
+side Source r d = flow (port r A) d
+side Sink r i = none
+side Queue r d = less (flow (port r B) d) (flow (port r A) d)
+side Function r e = less (flow (port r B) e) (mapped_to (port r A) (first_map r) e)
+side Fork r i =
     by_half (λ e. less (flow (port r B) e) (mapped_to (port r A) (first_map r) e)) (λ e. less (flow (port r C) e) (mapped_to (port r A) (second_map r) e)) i
-side join r i = cond (eqb i 8) (less (all_of (port r A)) (all_of (port r B))) (less (flow (port r C) i) (mapped_to (port r A) (first_map r) i))
-side switch r i =
+side Join r i = cond (eqb i 8) (less (all_of (port r A)) (all_of (port r B))) (less (flow (port r C) i) (mapped_to (port r A) (first_map r) i))
+side Switch r i =
     by_half (λ d. less (flow (port r B) d) (side_if (masked r d) (flow (port r A) d))) (λ d. less (flow (port r C) d) (side_if (not (masked r d)) (flow (port r A) d))) i
-side merge r d = less (less (flow (port r C) d) (flow (port r A) d)) (flow (port r B) d)
+side Merge r d = less (less (flow (port r C) d) (flow (port r A) d)) (flow (port r B) d)
 
 -- |index| (e, d below C). No other index exists; sinks have none.
 unfoldable pub has_index : Kind → List ℕ → ℕ → ℕ → Bool
-has_index source r colours d = ltb d colours && not (masked r d)
-has_index sink r colours i = false
-has_index queue r colours d = ltb d colours
-has_index function r colours e = ltb e colours
-has_index fork r colours i = by_half (λ e. ltb e colours) (λ e. ltb e colours) i
-has_index join r colours i = ltb i colours || eqb i 8
-has_index switch r colours i = by_half (λ d. ltb d colours) (λ d. ltb d colours) i
-has_index merge r colours d = ltb d colours
+has_index Source r colours d = ltb d colours && not (masked r d)
+has_index Sink r colours i = false
+has_index Queue r colours d = ltb d colours
+has_index Function r colours e = ltb e colours
+has_index Fork r colours i = by_half (λ e. ltb e colours) (λ e. ltb e colours) i
+has_index Join r colours i = ltb i colours || eqb i 8
+has_index Switch r colours i = by_half (λ d. ltb d colours) (λ d. ltb d colours) i
+has_index Merge r colours d = ltb d colours
 
 -- whether component k has an equation of index i
 unfoldable pub has_equation : Netlist → ℕ → ℕ → Bool

@@ -1,258 +1,138 @@
 // The equation that a term names by component and index: its flows, or refusal 12.
 #![tactic(auto)]
 
-ghost use Rattle.std.specs.Prelude.{◌≡◌, ◌+◌, ◌*◌, ◌≤◌, ◌<◌, length};
-ghost use Rattle.record.specs.Sizes.{row_size};
-ghost use Rattle.component.specs.Kind.{kind_of};
-ghost use Rattle.component.specs.Limits.{most_components};
+ghost use Rattle.std.specs.Prelude.{◌≡◌, ◌+◌, ◌*◌, ◌≤◌, ◌<◌};
 ghost use Rattle.netlist.specs.Netlist.{netlist_of};
-ghost use Rattle.equations.specs.Numbers.{missing, source_flows, queue_flows, mapped_flows, switch_flows, merge_flows, low_equation, high_equation, equation_of, equation_at, equation_named, equation_verdict};
+ghost use Rattle.equations.specs.Numbers.{equation_of, equation_at, equation_named};
+ghost use Rattle.equations.specs.declared.Equation.TheVariants.{Mapped};
 
-use digits::wide;
+use component::{Kind, Map, Port, Table};
 use netlist::Size;
-use refusals::{Refusal, Verdict};
+use refusals::Refusal;
 
-// The left side of an equation, each flow L(x,d) by its number 8x + d.
-#[derive(Clone, Copy)]
+/// The left side of an equation, each flow L(x,d) by its number 8x + d.
+#[derive(Clone, Copy, Debug, PartialEq, Eq)]
 pub enum Equation {
-    // There is no such equation: refusal 12, with the number of the term that names it.
-    Missing(Refusal),
-    // L
+    /// L
     One(usize),
-    // L - L
+    /// L - L
     Two(usize, usize),
-    // L - L - L
+    /// L - L - L
     Three(usize, usize, usize),
-    // L(plus) - the flows of the channel from `from` on whose colours the component's map, the first or the second, takes to `to`
+    /// L(plus) - the flows of the channel from `from` on whose colours the component's map takes to `to`
     Mapped {
         plus: usize,
         from: usize,
         component: usize,
-        second: bool,
+        map: Map,
         to: usize,
     },
-    // all flows of one channel - all flows of another, each from its first on
+    /// all flows of one channel - all flows of another, each from its first on
     All(usize, usize),
 }
 
-// 12: term k names no equation.
-fn missing(term: usize) -> Equation
-    ensures { result ≡ missing term }
-{
-    Equation::Missing(Refusal::NoEquation(term))
+// What an equation is made from: a component's number, its kind, the channels at its ports, and its mask.
+#[derive(Clone, Copy)]
+struct Component {
+    number: usize,
+    kind: Kind,
+    a: u8,
+    b: u8,
+    c: u8,
+    mask: u8,
 }
 
-fn source_flows(a: usize, mask: usize, colours: usize, d: usize, term: usize) -> Equation
-    requires { (a < 256) × (d < 8) }
-    ensures { result ≡ source_flows a mask colours d term }
+// The number of L(x,d).
+fn flow(x: u8, d: usize) -> usize
+    requires { d < 8 }
+    ensures { result ≡ 8 * x + d }
 {
-    if d < colours {
-        if component::has_colour(mask, d) {
-            missing(term)
-        } else {
-            Equation::One(8 * a + d)
+    8 * x as usize + d
+}
+
+// L(out,e) - the flows of port A that a map takes to e.
+fn mapped(of: Component, out: u8, map: Map, e: usize) -> Equation
+    requires { e < 8 }
+    ensures { result ≡ Mapped (8 * out + e) (8 * of.a) of.number map e }
+{
+    Equation::Mapped {
+        plus: flow(out, e),
+        from: flow(of.a, 0),
+        component: of.number,
+        map,
+        to: e,
+    }
+}
+
+// The decision over kind and index: the equation of index `i` of a component, or 12 at the term that names it.
+#[tactic(auto, unfolding(crate::specs::Numbers::equation_of, crate::specs::Numbers::low_equation, crate::specs::Numbers::high_equation))]
+fn equation_of(of: Component, colours: usize, i: usize, term: usize) -> Result<Equation, Refusal>
+    ensures { result ≡ equation_of of.kind of.a of.b of.c of.mask of.number colours i term }
+{
+    let Component { a, b, c, .. } = of;
+    let mask = of.mask as usize;
+    match (of.kind, i) {
+        (Kind::Source, 0..=7) if i < colours && !component::has_colour(mask, i) => {
+            Ok(Equation::One(flow(a, i)))
         }
-    } else {
-        missing(term)
-    }
-}
-
-fn queue_flows(a: usize, b: usize, colours: usize, d: usize, term: usize) -> Equation
-    requires { (a < 256) × (b < 256) × (d < 8) }
-    ensures { result ≡ queue_flows a b colours d term }
-{
-    if d < colours {
-        Equation::Two(8 * b + d, 8 * a + d)
-    } else {
-        missing(term)
-    }
-}
-
-fn mapped_flows(
-    out: usize,
-    a: usize,
-    second: bool,
-    q: usize,
-    colours: usize,
-    e: usize,
-    term: usize,
-) -> Equation
-    requires { (out < 256) × (a < 256) × (e < 8) }
-    ensures { result ≡ mapped_flows out a second q colours e term }
-{
-    if e < colours {
-        Equation::Mapped {
-            plus: 8 * out + e,
-            from: 8 * a,
-            component: q,
-            second,
-            to: e,
+        (Kind::Queue, 0..=7) if i < colours => Ok(Equation::Two(flow(b, i), flow(a, i))),
+        (Kind::Function, 0..=7) if i < colours => Ok(mapped(of, b, Map::First, i)),
+        (Kind::Fork, 0..=7) if i < colours => Ok(mapped(of, b, Map::First, i)),
+        (Kind::Fork, 8..=15) if i - 8 < colours => Ok(mapped(of, c, Map::Second, i - 8)),
+        (Kind::Join, 0..=7) if i < colours => Ok(mapped(of, c, Map::First, i)),
+        (Kind::Join, 8) => Ok(Equation::All(flow(a, 0), flow(b, 0))),
+        (Kind::Switch, 0..=7) if i < colours && component::has_colour(mask, i) => {
+            Ok(Equation::Two(flow(b, i), flow(a, i)))
         }
-    } else {
-        missing(term)
-    }
-}
-
-fn switch_flows(out: usize, a: usize, goes: bool, colours: usize, d: usize, term: usize) -> Equation
-    requires { (out < 256) × (a < 256) × (d < 8) }
-    ensures { result ≡ switch_flows out a goes colours d term }
-{
-    if d < colours {
-        if goes {
-            Equation::Two(8 * out + d, 8 * a + d)
-        } else {
-            Equation::One(8 * out + d)
+        (Kind::Switch, 0..=7) if i < colours => Ok(Equation::One(flow(b, i))),
+        (Kind::Switch, 8..=15) if i - 8 < colours && !component::has_colour(mask, i - 8) => {
+            Ok(Equation::Two(flow(c, i - 8), flow(a, i - 8)))
         }
-    } else {
-        missing(term)
-    }
-}
-
-fn merge_flows(a: usize, b: usize, c: usize, colours: usize, d: usize, term: usize) -> Equation
-    requires { (a < 256) × (b < 256) × (c < 256) × (d < 8) }
-    ensures { result ≡ merge_flows a b c colours d term }
-{
-    if d < colours {
-        Equation::Three(8 * c + d, 8 * a + d, 8 * b + d)
-    } else {
-        missing(term)
-    }
-}
-
-// The indexes 0 to 7 of each kind.
-fn low_equation(
-    kind: usize,
-    a: usize,
-    b: usize,
-    c: usize,
-    mask: usize,
-    q: usize,
-    colours: usize,
-    i: usize,
-    term: usize,
-) -> Equation
-    requires { (a < 256) × (b < 256) × (c < 256) × (i < 8) }
-    ensures { result ≡ low_equation (kind_of kind) a b c mask q colours i term }
-{
-    match kind {
-        // source
-        0 => source_flows(a, mask, colours, i, term),
-        // sink
-        1 => missing(term),
-        // queue
-        2 => queue_flows(a, b, colours, i, term),
-        // function
-        3 => mapped_flows(b, a, false, q, colours, i, term),
-        // fork
-        4 => mapped_flows(b, a, false, q, colours, i, term),
-        // join
-        5 => mapped_flows(c, a, false, q, colours, i, term),
-        // switch
-        6 => switch_flows(b, a, component::has_colour(mask, i), colours, i, term),
-        // merge
-        _ => merge_flows(a, b, c, colours, i, term),
-    }
-}
-
-// The indexes 8 to 15: a fork's and a switch's for their other output, and a join's 8.
-fn high_equation(
-    kind: usize,
-    a: usize,
-    b: usize,
-    c: usize,
-    mask: usize,
-    q: usize,
-    colours: usize,
-    i: usize,
-    term: usize,
-) -> Equation
-    requires { (a < 256) × (b < 256) × (c < 256) × (8 ≤ i) × (i < 16) }
-    ensures { result ≡ high_equation (kind_of kind) a b c mask q colours i term }
-{
-    match kind {
-        // fork
-        4 => mapped_flows(c, a, true, q, colours, i - 8, term),
-        // join
-        5 => match i {
-            8 => Equation::All(8 * a, 8 * b),
-            _ => missing(term),
-        },
-        // switch
-        6 => switch_flows(
-            c,
-            a,
-            !component::has_colour(mask, i - 8),
-            colours,
-            i - 8,
-            term,
-        ),
-        _ => missing(term),
-    }
-}
-
-// The decision over kind and index: the equation of index `i` of component `q`, which has these ports and this mask.
-fn equation_of(
-    kind: usize,
-    a: usize,
-    b: usize,
-    c: usize,
-    mask: usize,
-    q: usize,
-    colours: usize,
-    i: usize,
-    term: usize,
-) -> Equation
-    requires { (a < 256) × (b < 256) × (c < 256) }
-    ensures { result ≡ equation_of (kind_of kind) a b c mask q colours i term }
-{
-    match i {
-        0..=7 => low_equation(kind, a, b, c, mask, q, colours, i, term),
-        8..=15 => high_equation(kind, a, b, c, mask, q, colours, i, term),
-        _ => missing(term),
+        (Kind::Switch, 8..=15) if i - 8 < colours => Ok(Equation::One(flow(c, i - 8))),
+        (Kind::Merge, 0..=7) if i < colours => {
+            Ok(Equation::Three(flow(c, i), flow(a, i), flow(b, i)))
+        }
+        _ => Err(Refusal::NoEquation(term)),
     }
 }
 
 // The equation of index `i` of component `q`.
-fn equation_at(table: &[u8], q: usize, colours: usize, i: usize, term: usize) -> Equation
-    requires { row_size * q + row_size ≤ length table.now }
-    ensures { result ≡ equation_at table.now q colours i term }
+#[tactic(auto, unfolding(crate::specs::Numbers::equation_at))]
+fn equation_at(
+    table: &Table,
+    colours: usize,
+    q: usize,
+    i: usize,
+    term: usize,
+) -> Result<Equation, Refusal>
+    requires { q < table.now.rows }
+    ensures { result ≡ equation_at table.now.bytes.now q colours i term }
 {
-    let kind = wide(component::kind(table, q));
-    let a = wide(component::port(table, q, 0));
-    let b = wide(component::port(table, q, 1));
-    let c = wide(component::port(table, q, 2));
-    let mask = wide(component::mask(table, q));
-    equation_of(kind, a, b, c, mask, q, colours, i, term)
+    let of = Component {
+        number: q,
+        kind: table.kind(q),
+        a: table.port(q, Port::A),
+        b: table.port(q, Port::B),
+        c: table.port(q, Port::C),
+        mask: table.mask(q),
+    };
+    equation_of(of, colours, i, term)
 }
 
-// The equation of component `q` and index `i` that a term names.
-pub fn equation_named(table: &[u8], size: Size, q: usize, i: usize, term: usize) -> Equation
-    requires { (size.components ≤ most_components) × (row_size * size.components ≤ length table.now) }
-    ensures { result ≡ equation_named (netlist_of size table.now) q i term }
+/// The equation of component `q` and index `i` that a term names; refused with 12 and the term's number if there is none.
+#[tactic(auto, unfolding(crate::specs::Numbers::equation_named))]
+pub fn equation_named(
+    table: &Table,
+    size: Size,
+    q: usize,
+    i: usize,
+    term: usize,
+) -> Result<Equation, Refusal>
+    requires { size.components ≤ table.now.rows }
+    ensures { result ≡ equation_named (netlist_of size table.now.bytes.now) q i term }
 {
-    if q < size.components {
-        equation_at(table, q, size.colours, i, term)
-    } else {
-        missing(term)
+    if size.components <= q {
+        return Err(Refusal::NoEquation(term));
     }
-}
-
-// Refusal 12 where there is none.
-pub fn verdict_on(e: Equation) -> Verdict
-    ensures { result ≡ equation_verdict e }
-{
-    match e {
-        Equation::Missing(r) => Verdict::Refused(r),
-        Equation::One(_) => Verdict::Accepted,
-        Equation::Two(_, _) => Verdict::Accepted,
-        Equation::Three(_, _, _) => Verdict::Accepted,
-        Equation::Mapped {
-            plus: _,
-            from: _,
-            component: _,
-            second: _,
-            to: _,
-        } => Verdict::Accepted,
-        Equation::All(_, _) => Verdict::Accepted,
-    }
+    equation_at(table, size.colours, q, i, term)
 }

@@ -1,5 +1,10 @@
 -- What pack comes to. Assumes nothing.
-use mathlib.Core.Path.{◌≡◌, ap, ◌∙◌}
+use Rattle.std.proofs.Common.{Some, None}
+use Rattle.search.specs.First.{first}
+use Rattle.search.proofs.Laws.{first_least, none_least}
+use Rattle.refusals.specs.declared.Refusal.{Refusal}
+use Rattle.std.proofs.Common.{Result, Ok, Err}
+use mathlib.Core.Path.{◌≡◌, ap, sym, ◌∙◌}
 use Prim.Native.Nat.{ℕ, ◌*◌, ◌/◌, ◌%◌, ◌≤◌, ◌<◌}
 use native.Mathlib.Omega.{arith}
 use mathlib.Core.Bool.{Bool, true, false, not, ◌||◌}
@@ -12,19 +17,18 @@ use Rattle.digits.proofs.Bools.{or-false}
 use Rattle.refusals.specs.Refusals.{Test, test, first_refusal, kept}
 use Rattle.refusals.specs.Room.{room_for}
 use Rattle.refusals.specs.declared.Refusal.TheVariants.{WrongLength, CountRange, BadField, ResultSpace}
-use Rattle.refusals.specs.declared.Verdict.{Verdict}
-use Rattle.refusals.specs.declared.Verdict.TheVariants.{Accepted, Refused}
-use Rattle.refusals.proofs.Refusals.{cond-accepted}
+use Rattle.refusals.proofs.Refusals.{and_then, cond-accepted}
 use Rattle.refusals.proofs.Room.{room-last, last-accepted}
 use Rattle.record.specs.Table.{row}
 use Rattle.record.specs.Sizes.{file_size, row_size}
 use Rattle.component.specs.Row.{row_ok}
 use Rattle.component.specs.Limits.{most_channels, most_colours, most_components}
 use Rattle.component.proofs.Facts.{row-parts, kind-le}
-use Rattle.wiring.specs.Stages.{Kinds, Wiring}
-use Rattle.wiring.specs.declared.Wired.{Wired}
+use Rattle.wiring.specs.Stages.{Kinds, wired}
 use Rattle.reader.specs.File.{bad_row, first_bad_row, wire_tests}
 use Rattle.reader.specs.Stages.{wired_verdict}
+use Rattle.wiring.specs.Refused.{refusal_of}
+use Rattle.wiring.specs.declared.Miswired.{Miswired}
 use Rattle.reader.proofs.Tests.{wire-tests, positive}
 use Rattle.fabric.specs.PackedFile.{packed_file}
 use Rattle.fabric.specs.Calls.{packed, packed_into}
@@ -36,19 +40,27 @@ module _ (colours channels n : ℕ) (table : List ℕ) where
   unfolding first_bad_row
   good-rows h k l = not-false _ (least-before (bad_row colours channels table) n k (omega arith))
 
-  pub row-kinds : n ≤ most_components → length table ≡ row_size * n → n ≤ first_bad_row colours channels table n → Kinds table n
-  row-kinds few l h = record { long = omega arith; few = few; kinds = λ k b. kind-le (row-parts colours channels (row table k) (good-rows h k b)) }
+  pub is_field : (k : ℕ) → first (bad_row colours channels table) n ≡ Some k → Err (BadField k) ≡ table_verdict colours channels table n
+  unfolding table_verdict first_bad_row
+  is_field k e = let w = first_least (bad_row colours channels table) n k e in rw (w.1, lt-ltb k n w.0)
 
-  module _ (bad : ℕ) (eb : bad ≡ first_bad_row colours channels table n) where
-    pub is_field : bad < n → Refused (BadField bad) ≡ table_verdict colours channels table n
-    unfolding table_verdict
-    is_field h = rw (← eb, lt-ltb bad n h)
+  module _ (none : first (bad_row colours channels table) n ≡ None) where
+    all : n ≤ first_bad_row colours channels table n
+    unfolding first_bad_row
+    all = omega (arith, none_least (bad_row colours channels table) n none)
 
-    pub is-wired : n ≤ bad → (found : Wired) (ends order : List ℕ) (v : Verdict) → Wiring table n channels found ends order → v ≡ wired_verdict found → v ≡ table_verdict colours channels table n
+    pub row-kinds : n ≤ most_components → row_size * n ≤ length table → Kinds table n
+    row-kinds few l = record { long = omega arith; few = few; kinds = λ k b. kind-le (row-parts colours channels (row table k) (good-rows all k b)) }
+
+    judged-is : wired_verdict (wired table n channels) ≡ table_verdict colours channels table n
     unfolding table_verdict
-    is-wired h found ends order v w ev =
-        let passed : first_refusal (wire_tests table n channels) ≡ table_verdict colours channels table n = rw (← eb, le-ltb bad n h) in
-        ev ∙ ap wired_verdict w.is ∙ wire-tests table n channels ∙ passed
+    judged-is = wire-tests table n channels ∙ sym (rw (le-ltb (first_bad_row colours channels table n) n all))
+
+    pub is-miswired : {m : Miswired} → Err m ≡ wired table n channels → Err (refusal_of m) ≡ table_verdict colours channels table n
+    is-miswired e = ap wired_verdict e ∙ judged-is
+
+    pub is-wired : Ok tt ≡ wired table n channels → Ok tt ≡ table_verdict colours channels table n
+    is-wired e = ap wired_verdict e ∙ judged-is
 
 -- ---- the call
 abbrev pub outside : ℕ → ℕ → ℕ → Bool
@@ -79,33 +91,40 @@ inside c m n e =
     }
 
 module _ (colours channels : ℕ) (table : List ℕ) (space : ℕ) where
-  pub is-uneven : (length table % row_size ≡ 0 → ⊥) → Refused WrongLength ≡ packed colours channels table space
+  pub is-uneven : (length table % row_size ≡ 0 → ⊥) → Err WrongLength ≡ packed colours channels table space
   unfolding packed
   is-uneven h = rw (ne_eqb (length table % row_size) 0 h)
 
   module _ (even : length table % row_size ≡ 0) where
-    pub is-outside : outside colours channels (length table / row_size) ≡ true → Refused CountRange ≡ packed colours channels table space
+    pub is-outside : outside colours channels (length table / row_size) ≡ true → Err CountRange ≡ packed colours channels table space
     unfolding packed
     is-outside h = rw (eq-eqb (length table % row_size) 0 even, h)
 
-    pub is-judged : outside colours channels (length table / row_size) ≡ false → (v r : Verdict) → v ≡ table_verdict colours channels table (length table / row_size)
-        → r ≡ room_for v space (file_size (length table / row_size)) → r ≡ packed colours channels table space
+    pub is-judged : outside colours channels (length table / row_size) ≡ false
+        → and_then (table_verdict colours channels table (length table / row_size)) (room_for space (file_size (length table / row_size))) ≡ packed colours channels table space
     unfolding packed table_verdict
-    is-judged h v r ev er =
+    is-judged h =
         let n : ℕ = length table / row_size in
         let last : List Test = test ResultSpace (ltb space (file_size n)) ∷ [] in
         let rest : List Test = test (BadField (first_bad_row colours channels table n)) (ltb (first_bad_row colours channels table n) n) ∷ wire_tests table n channels in
         let passed : first_refusal (rest ++ last) ≡ packed colours channels table space = rw (eq-eqb (length table % row_size) 0 even, h) in
-        er ∙ ap (λ (x : Verdict). room_for x space (file_size n)) ev ∙ room-last rest space (file_size n) ∙ passed
+        room-last rest space (file_size n) ∙ passed
+
+    module _ (h : outside colours channels (length table / row_size) ≡ false) where
+      pub judged-refused : {r : Refusal} → Err r ≡ table_verdict colours channels table (length table / row_size) → Err r ≡ packed colours channels table space
+      judged-refused e = ap (λ (v : Result Unit Refusal). and_then v (room_for space (file_size (length table / row_size)))) e ∙ is-judged h
+
+      pub judged-room : Ok tt ≡ table_verdict colours channels table (length table / row_size) → room_for space (file_size (length table / row_size)) ≡ packed colours channels table space
+      judged-room e = ap (λ (v : Result Unit Refusal). and_then v (room_for space (file_size (length table / row_size)))) e ∙ is-judged h
 
   -- an accepted table
   pub record PackFacts : Type 0 where
     pub even : length table % row_size ≡ 0
     pub inside : Inside colours channels (length table / row_size)
-    pub verdict : table_verdict colours channels table (length table / row_size) ≡ Accepted
+    pub verdict : table_verdict colours channels table (length table / row_size) ≡ (Ok tt)
     pub room : file_size (length table / row_size) ≤ space
 
-  pub pack-accepted : packed colours channels table space ≡ Accepted → PackFacts
+  pub pack-accepted : packed colours channels table space ≡ (Ok tt) → PackFacts
   unfolding packed table_verdict
   pack-accepted e =
       let n : ℕ = length table / row_size in
@@ -121,8 +140,8 @@ module _ (colours channels : ℕ) (table : List ℕ) (space : ℕ) where
         room = s₃.1;
       }
 
-pub file-of : (colours channels : ℕ) (table file : List ℕ) (v : Verdict) → v ≡ packed colours channels table (length file)
+pub file-of : (colours channels : ℕ) (table file : List ℕ) (v : Result Unit Refusal) → v ≡ packed colours channels table (length file)
     → kept v (packed_file colours channels table (length table / row_size) ++ drop (file_size (length table / row_size)) file) file ≡ packed_into colours channels table file
 unfolding packed_into
 file-of colours channels table file v e =
-    ap (λ (x : Verdict). kept x (packed_file colours channels table (length table / row_size) ++ drop (file_size (length table / row_size)) file) file) e
+    ap (λ (x : Result Unit Refusal). kept x (packed_file colours channels table (length table / row_size) ++ drop (file_size (length table / row_size)) file) file) e

@@ -2,83 +2,61 @@
 #![tactic(auto)]
 
 ghost use Rattle.std.specs.Prelude.{◌≡◌, ◌+◌, ◌*◌, ◌≤◌, ◌<◌, ◌++◌, length, take, drop};
-ghost use Rattle.refusals.specs.Room.{room_for};
-ghost use Rattle.refusals.specs.declared.Verdict.TheVariants.{Accepted};
 ghost use Rattle.record.specs.Sizes.{file_size, row_size};
 ghost use Rattle.carried.specs.Carried.{check_place};
 ghost use Rattle.component.specs.Limits.{most_colours, most_components};
-ghost use Rattle.reader.specs.Reading.{read_as};
 ghost use Rattle.fabric.specs.PackedFile.{header_bytes, packed_file};
 ghost use Rattle.fabric.specs.Calls.{unpacked, unpacked_table, packed, packed_into, record_start, record_length};
 ghost use Rattle.fabric.specs.Stages.{table_verdict};
 
 use carried::CHECK_PLACE;
-use component::{MOST_CHANNELS, MOST_COLOURS, MOST_COMPONENTS, TABLE_SIZE};
+use component::{MOST_CHANNELS, MOST_COLOURS, MOST_COMPONENTS, Table};
 use netlist::Size;
 use order::MOST_SIGNALS;
-use reader::Reading;
+use reader::Buffers;
 use record::{HEADER_SIZE, RECORD_SIZE, ROW_SIZE};
-use refusals::{Refusal, Verdict};
+use refusals::{Refusal, room_for};
 use wiring::ENDS_SIZE;
 
-// What unpack answers of a file that is read, with so much space for its table.
-fn with_room(size: Size, space: usize) -> Reading
-    requires { size.components ≤ most_components }
-    ensures { result ≡ read_as (room_for Accepted space (row_size * size.components)) size }
-{
-    let need = ROW_SIZE * size.components;
-    reader::read_as(refusals::room_for(Verdict::Accepted, space, need), size)
-}
-
-// What unpack answers, with so much space.
-pub fn unpack_answer(file: &[u8], space: usize) -> Reading
+/// What unpack answers, with so much space.
+#[tactic(auto, using(crate::proofs::Unpacked::unpacked_roomy))]
+pub fn unpack_answer(file: &[u8], space: usize) -> Result<Size, Refusal>
     ensures { result ≡ unpacked file.now space }
 {
-    match reader::reading_of(file) {
-        Reading::Rejected(e) => Reading::Rejected(e),
-        Reading::Fabric(size) => with_room(size, space),
-    }
+    let mut buffers = Buffers::new();
+    let size = buffers.read(file)?.netlist.size;
+    room_for(space, ROW_SIZE * size.components)?;
+    Ok(size)
 }
 
-// Writes the open table of a file.
-pub fn unpack(file: &[u8], table: &mut [u8]) -> Reading
-    ensures { (result ≡ unpacked file.now (length table.old)) × (table.new ≡ unpacked_table file.now table.old) }
+/// Writes the open table of a file.
+#[tactic(auto, using(crate::proofs::Unpacked::unpacked_roomy, crate::proofs::Unpacked::table_roomy))]
+pub fn unpack(file: &[u8], table: &mut [u8]) -> Result<Size, Refusal>
+    ensures answer { result ≡ unpacked file.now (length table.old) }
+    ensures table { table.new ≡ unpacked_table file.now table.old }
 {
-    let mut rows = [0u8; TABLE_SIZE];
-    let mut ends = [0u16; ENDS_SIZE];
-    let mut order = [0u16; MOST_SIGNALS];
-    match reader::read(file, &mut rows, &mut ends, &mut order) {
-        Reading::Rejected(e) => Reading::Rejected(e),
-        Reading::Fabric(size) => {
-            let answer = with_room(size, table.len());
-            match answer {
-                Reading::Rejected(e) => Reading::Rejected(e),
-                Reading::Fabric(given) => {
-                    digits::copy(&rows, ROW_SIZE * size.components, &mut *table, 0);
-                    Reading::Fabric(given)
-                }
-            }
-        }
-    }
+    let mut buffers = Buffers::new();
+    let netlist = buffers.read(file)?.netlist;
+    let rows = netlist.table.bytes;
+    room_for(table.len(), rows.len())?;
+    table[..rows.len()].copy_from_slice(rows);
+    Ok(netlist.size)
 }
 
-// The 13 bytes of component k in the file itself, or an empty part.
+/// The 13 bytes of component k in the file itself, or an empty part.
 pub fn record(file: &[u8], k: usize) -> &[u8]
-    ensures { (result.now ≡ take (record_length file.now k) (drop (record_start file.now k) file.now))
-        × (result.ref_ptr ≡ (file.entry.ref_ptr.0, record_start file.now k + file.entry.ref_ptr.1)) }
+    ensures part { result.now ≡ take (record_length file.now k) (drop (record_start file.now k) file.now) }
+    ensures place { result.ref_ptr ≡ (file.entry.ref_ptr.0, record_start file.now k + file.entry.ref_ptr.1) }
 {
-    match reader::reading_of(file) {
-        Reading::Rejected(_e) => &file[0..0],
-        Reading::Fabric(size) => {
-            let n = size.components;
-            if k < n {
-                let start = HEADER_SIZE + RECORD_SIZE * k;
-                let end = start + RECORD_SIZE;
-                return &file[start..end];
-            }
-            &file[0..0]
-        }
+    let mut buffers = Buffers::new();
+    let Ok(fabric) = buffers.read(file) else {
+        return &file[0..0];
+    };
+    if fabric.netlist.size.components <= k {
+        return &file[0..0];
     }
+    let start = HEADER_SIZE + RECORD_SIZE * k;
+    &file[start..start + RECORD_SIZE]
 }
 
 // Header bytes 0 to 2, where c is one less than the count of colours.
@@ -94,66 +72,54 @@ fn put_file(c: u8, channels: u8, table: &[u8], components: u8, out: &mut [u8])
     requires { (c < 8) × (row_size * components ≤ length table.now) × (file_size components ≤ length out.old) }
     ensures { out.new ≡ packed_file (c + 1) channels table.now components ++ drop (file_size components) out.old }
 {
-    let start = carried::put_header(&mut *out, header_of(c, components, channels));
-    let total = carried::put_records(table, components as usize, &mut *out, start);
-    carried::put_check(&mut *out, total);
+    let start = carried::put_header(out, header_of(c, components, channels));
+    let total = carried::put_records(table, components as usize, out, start);
+    carried::put_check(out, total);
 }
 
-// The refusals 6 to 8 of a table of n rows.
-fn table_verdict(table: &[u8], n: usize, colours: u8, channels: u8) -> Verdict
-    requires { (length table.now ≡ row_size * n) × (n ≤ most_components) × (colours ≤ most_colours) }
-    ensures { result ≡ table_verdict colours channels table.now n }
+/// The refusals 6 to 8 of a table.
+fn table_verdict(table: &Table, colours: u8, channels: u8) -> Result<(), Refusal>
+    requires few { table.now.rows ≤ most_components }
+    requires few_colours { colours ≤ most_colours }
+    ensures { result ≡ table_verdict colours channels table.now.bytes.now table.now.rows }
 {
-    let bad = reader::first_bad_row(table, n, colours, channels);
-    if bad < n {
-        return Verdict::Refused(Refusal::BadField(bad));
+    if let Some(k) = reader::first_bad_row(table, colours, channels) {
+        return Err(Refusal::BadField(k));
     }
-    let mut ends = [0u16; ENDS_SIZE];
-    let mut order = [0u16; MOST_SIGNALS];
-    let found = wiring::wire(table, n, channels as usize, &mut ends, &mut order);
-    reader::wired_verdict(found)
+    let mut ends = [0; ENDS_SIZE];
+    let mut order = [0; MOST_SIGNALS];
+    wiring::wire(table, channels as usize, &mut ends, &mut order)?;
+    Ok(())
 }
 
-// What pack answers, with so much space.
-pub fn pack_answer(colours: u64, channels: u64, table: &[u8], space: usize) -> Verdict
+/// What pack answers, with so much space.
+pub fn pack_answer(colours: u64, channels: u64, table: &[u8], space: usize) -> Result<(), Refusal>
     ensures { result ≡ packed colours channels table.now space }
 {
-    let n = table.len() / ROW_SIZE;
     if table.len() % ROW_SIZE != 0 {
-        return Verdict::Refused(Refusal::WrongLength);
+        return Err(Refusal::WrongLength);
     }
-    if (n == 0)
-        | (MOST_COMPONENTS < n)
+    let rows = table.len() / ROW_SIZE;
+    if (rows == 0)
+        | (MOST_COMPONENTS < rows)
         | (channels == 0)
         | ((MOST_CHANNELS as u64) < channels)
         | (colours == 0)
         | ((MOST_COLOURS as u64) < colours)
     {
-        return Verdict::Refused(Refusal::CountRange);
+        return Err(Refusal::CountRange);
     }
-    refusals::room_for(
-        table_verdict(table, n, colours as u8, channels as u8),
-        space,
-        HEADER_SIZE + RECORD_SIZE * n,
-    )
+    table_verdict(&Table { rows, bytes: table }, colours as u8, channels as u8)?;
+    room_for(space, HEADER_SIZE + RECORD_SIZE * rows)
 }
 
-// Writes the packed file of a table.
-pub fn pack(colours: u64, channels: u64, table: &[u8], file: &mut [u8]) -> Verdict
-    ensures { (result ≡ packed colours channels table.now (length file.old)) × (file.new ≡ packed_into colours channels table.now file.old) }
+/// Writes the packed file of a table.
+pub fn pack(colours: u64, channels: u64, table: &[u8], file: &mut [u8]) -> Result<(), Refusal>
+    ensures answer { result ≡ packed colours channels table.now (length file.old) }
+    ensures file { file.new ≡ packed_into colours channels table.now file.old }
 {
-    match pack_answer(colours, channels, table, file.len()) {
-        Verdict::Refused(e) => Verdict::Refused(e),
-        Verdict::Accepted => {
-            let n = table.len() / ROW_SIZE;
-            put_file(
-                (colours - 1) as u8,
-                channels as u8,
-                table,
-                n as u8,
-                &mut *file,
-            );
-            Verdict::Accepted
-        }
-    }
+    pack_answer(colours, channels, table, file.len())?;
+    let rows = table.len() / ROW_SIZE;
+    put_file((colours - 1) as u8, channels as u8, table, rows as u8, file);
+    Ok(())
 }

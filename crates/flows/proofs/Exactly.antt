@@ -1,4 +1,5 @@
 -- A well formed proposal is accepted exactly if every flow inside the sets cancels and some weight is not 0. Assumes nothing.
+use Rattle.std.proofs.Common.{Ok}
 use mathlib.Core.Path.{◌≡◌, refl, sym, ap, ◌∙◌}
 use mathlib.Core.Bool.{Bool, true, false, cond, not, ◌&&◌, true≢false}
 use mathlib.Core.List.{List}
@@ -13,7 +14,6 @@ use Rattle.digits.proofs.Bools.{and-false}
 use Rattle.integers.specs.Sum.{is_zero}
 use Rattle.integers.proofs.Sum.{zero_is, is-zero}
 use Rattle.refusals.specs.declared.Refusal.TheVariants.{ProposalLength, NoEquation, FlowLeft, NoWeight}
-use Rattle.refusals.specs.declared.Verdict.TheVariants.{Accepted}
 use Rattle.refusals.proofs.Refusals.{cond-accepted}
 use Rattle.component.specs.Limits.{most_colours}
 use Rattle.netlist.specs.Netlist.{Netlist}
@@ -89,29 +89,29 @@ module _ (f : Netlist) (p : List ℕ) where
       ne (sym (entry-weight f p q d (omega arith) ld) ∙ zero_is (entry f p (8 * q + d)) (not-false (is_zero (entry f p (8 * q + d))) (least-before (is_weight f p) (8 * f.components) (8 * q + d) (omega (arith, e)))))
 
   -- ---- accepted
-  parts : judged f p ≡ Accepted → (bad_length p ≡ false) × (ltb (first_bad_term f p) (terms p) ≡ false) × (ltb (lowest_left f p) (8 * f.channels) ≡ false) × (weightless f p ≡ false)
+  parts : judged f p ≡ (Ok tt) → (bad_length p ≡ false) × (ltb (first_bad_term f p) (terms p) ≡ false) × (ltb (lowest_left f p) (8 * f.channels) ≡ false) × (weightless f p ≡ false)
   unfolding judged
   parts e =
       let a = cond-accepted ProposalLength (bad_length p) _ e in
       let b = cond-accepted (NoEquation (first_bad_term f p)) (ltb (first_bad_term f p) (terms p)) _ a.1 in
       let c = cond-accepted (FlowLeft (lowest_left f p)) (ltb (lowest_left f p) (8 * f.channels)) _ b.1 in
-      let d = cond-accepted NoWeight (weightless f p) Accepted c.1 in
+      let d = cond-accepted NoWeight (weightless f p) (Ok tt) c.1 in
       (a.0, b.0, c.0, d.0)
 
-  pub accepted-formed : judged f p ≡ Accepted → WellFormed f p
+  pub accepted-formed : judged f p ≡ (Ok tt) → WellFormed f p
   accepted-formed e = record {
     lengths = (parts e).0;
     named = λ k l. least-before (bad_term f p) (terms p) k (omega (arith, ltb-false (first_bad_term f p) (terms p) (parts e).1));
   }
 
-  pub accepted-cancels : AcceptedNetlist f → judged f p ≡ Accepted → CancelsInside f p
+  pub accepted-cancels : AcceptedNetlist f → judged f p ≡ (Ok tt) → CancelsInside f p
   accepted-cancels h e =
       none-left-cancels h (omega (arith, ltb-false (lowest_left f p) (8 * f.channels) (parts e).2, least-le (is_left f p) (8 * f.channels)))
 
-  pub accepted-weighty : judged f p ≡ Accepted → SomeWeight f p
+  pub accepted-weighty : judged f p ≡ (Ok tt) → SomeWeight f p
   accepted-weighty e = weighty-some (eqb-false (least (is_weight f p) (8 * f.components)) (8 * f.components) (parts e).3)
 
-  pub accepted-exactly : AcceptedNetlist f → WellFormed f p → CancelsInside f p → SomeWeight f p → judged f p ≡ Accepted
+  pub accepted-exactly : AcceptedNetlist f → WellFormed f p → CancelsInside f p → SomeWeight f p → judged f p ≡ (Ok tt)
   unfolding judged
   accepted-exactly h w c s =
       let k : terms p ≤ first_bad_term f p = omega (arith, least-none (bad_term f p) (terms p) w.named) in

@@ -1,4 +1,6 @@
 -- What a proposal comes to, by the four tests. Assumes nothing.
+use Rattle.std.proofs.Common.{Result, Ok, Err}
+use Rattle.refusals.specs.declared.Refusal.{Refusal}
 use mathlib.Core.Path.{◌≡◌, refl}
 use mathlib.Core.Bool.{Bool, true, false}
 use mathlib.Core.List.{List, [], ◌∷◌}
@@ -7,14 +9,12 @@ use lib.Dec.{ltb}
 use Rattle.digits.proofs.Least.{least-le}
 use Rattle.refusals.specs.Refusals.{test, first_refusal}
 use Rattle.refusals.specs.declared.Refusal.TheVariants.{ProposalLength, NoEquation, FlowLeft, NoWeight}
-use Rattle.refusals.specs.declared.Verdict.{Verdict}
-use Rattle.refusals.specs.declared.Verdict.TheVariants.{Accepted, Refused}
 use Rattle.netlist.specs.Netlist.{Netlist}
 use Rattle.flows.specs.Terms.{terms}
 use Rattle.flows.specs.Verdict.{bad_length, bad_term, first_bad_term, is_left, lowest_left, weightless, judged}
 
-pub judged-by : (f : Netlist) (p : List ℕ) (P : Verdict → Type 0) → (bad_length p ≡ true → P (Refused ProposalLength))
-    → ((k : ℕ) → k ≤ terms p → P (Refused (NoEquation k))) → ((v : ℕ) → v ≤ 8 * f.channels → P (Refused (FlowLeft v))) → P (Refused NoWeight) → P Accepted → P (judged f p)
+pub judged-by : (f : Netlist) (p : List ℕ) (P : Result Unit Refusal → Type 0) → (bad_length p ≡ true → P (Err ProposalLength))
+    → ((k : ℕ) → k ≤ terms p → P (Err (NoEquation k))) → ((v : ℕ) → v ≤ 8 * f.channels → P (Err (FlowLeft v))) → P (Err NoWeight) → P (Ok tt) → P (judged f p)
 unfolding judged
 judged-by f p P long named left weightless-here accepted =
     go (bad_length p) refl (ltb (first_bad_term f p) (terms p)) (ltb (lowest_left f p) (8 * f.channels)) (weightless f p)

@@ -1,14 +1,13 @@
 -- The verdict on a proposal for a fabric that was read: refusals 11 to 14, in this order.
-use Rattle.std.specs.Prelude.{◌≡◌, Bool, false, not, ◌&&◌, ◌||◌, List, [], ◌∷◌, ◌++◌, ℕ, ◌*◌, ◌/◌, ◌%◌, ◌^◌, ◌<◌, ltb, eqb, length, drop, ℤ, pos}
+use Rattle.std.specs.Prelude.{◌≡◌, Bool, false, Result, Ok, Err, not, ◌&&◌, ◌||◌, List, [], ◌∷◌, ◌++◌, ℕ, ◌*◌, ◌/◌, ◌%◌, ◌^◌, ◌<◌, ltb, eqb, length, drop, ℤ, pos}
 use Rattle.std.specs.Int.{w64}
 use Rattle.std.proofs.Common.{of_z}
 use Rattle.digits.specs.Least.{least}
 use Rattle.digits.specs.UpTo.{up_to}
 use Rattle.integers.specs.Sum.{is_zero}
 use Rattle.refusals.specs.Refusals.{Test, test, first_refusal}
+use Rattle.refusals.specs.declared.Refusal.{Refusal}
 use Rattle.refusals.specs.declared.Refusal.TheVariants.{ProposalLength, NoEquation, FlowLeft, NoWeight, ResultSpace}
-use Rattle.refusals.specs.declared.Verdict.{Verdict}
-use Rattle.refusals.specs.declared.Verdict.TheVariants.{Accepted, Refused}
 use Rattle.netlist.specs.Netlist.{Netlist}
 use Rattle.reach.specs.Rounds.{reachable}
 use Rattle.equations.specs.Equations.{has_equation}
@@ -49,12 +48,17 @@ judge_tests f p =
     ∷ test NoWeight (weightless f p)
     ∷ []
 
-unfoldable pub judged : Netlist → List ℕ → Verdict
+unfoldable pub judged : Netlist → List ℕ → Result Unit Refusal
 judged f p = first_refusal (judge_tests f p)
 
 -- then 23 result space short, with room for so many entries
-unfoldable pub judged_within : Netlist → List ℕ → ℕ → Verdict
+unfoldable pub judged_within : Netlist → List ℕ → ℕ → Result Unit Refusal
 judged_within f p space = first_refusal (judge_tests f p ++ (test ResultSpace (ltb space (8 * f.components)) ∷ []))
+
+-- what a call hands back with a verdict: a value where it is accepted, the refusal else
+abbrev pub giving : {T : Type 0} → Result Unit Refusal → T → Result T Refusal
+giving (Ok tt) x = Ok x
+giving (Err r) x = Err r
 
 -- Both files are well formed if none of 1-8, 11 and 12 is met: of the proposal, 11 and 12.
 pub record WellFormed (f : Netlist) (p : List ℕ) : Type 0 where
@@ -66,14 +70,14 @@ abbrev pub SomeWeight : Netlist → List ℕ → Type 0
 SomeWeight f p = (q : ℕ) × (d : ℕ) × (q < f.components) × (d < f.colours) × (weight f p q d ≡ pos 0 → ⊥)
 
 -- K; any other number that a refused call hands back is 0
-unfoldable pub constant_by : Verdict → Netlist → List ℕ → ℤ
-constant_by Accepted f p = constant f p
-constant_by (Refused r) f p = pos 0
+unfoldable pub constant_by : Result Unit Refusal → Netlist → List ℕ → ℤ
+constant_by (Ok tt) f p = constant f p
+constant_by (Err r) f p = pos 0
 
 -- the lent table after a verdict: 8N entries, or as it was
-unfoldable pub table_by : Verdict → Netlist → List ℕ → List ℤ → List ℤ
-table_by Accepted f p s = up_to (8 * f.components) (entry f p) ++ drop (8 * f.components) s
-table_by (Refused r) f p s = s
+unfoldable pub table_by : Result Unit Refusal → Netlist → List ℕ → List ℤ → List ℤ
+table_by (Ok tt) f p s = up_to (8 * f.components) (entry f p) ++ drop (8 * f.components) s
+table_by (Err r) f p s = s
 
 -- a 64-bit entry is 8 bytes, lowest first: byte i of the two's complement of z
 abbrev pub byte_of : ℤ → ℕ → ℕ
@@ -84,6 +88,6 @@ abbrev pub weight_byte : (ℕ → ℤ) → ℕ → ℕ
 weight_byte g j = byte_of (g (j / 8)) (j % 8)
 
 -- lent bytes after a verdict, which hold an entry in each whole 8: 64N bytes, or as they were
-unfoldable pub bytes_by : Verdict → Netlist → List ℕ → List ℕ → List ℕ
-bytes_by Accepted f p bytes = up_to (8 * (8 * f.components)) (weight_byte (entry f p)) ++ drop (8 * (8 * f.components)) bytes
-bytes_by (Refused r) f p bytes = bytes
+unfoldable pub bytes_by : Result Unit Refusal → Netlist → List ℕ → List ℕ → List ℕ
+bytes_by (Ok tt) f p bytes = up_to (8 * (8 * f.components)) (weight_byte (entry f p)) ++ drop (8 * (8 * f.components)) bytes
+bytes_by (Err r) f p bytes = bytes

@@ -2,7 +2,7 @@
 use mathlib.Core.Path.{◌≡◌, refl, sym, ap, ◌∙◌}
 use mathlib.Core.Bool.{Bool, true, false, cond, ◌&&◌}
 use mathlib.Core.List.{List}
-use Prim.Native.Nat.{ℕ, zero, suc, ◌+◌, ◌-◌, ◌≤◌, ◌<◌}
+use Prim.Native.Nat.{ℕ, zero, suc, ◌+◌, ◌-◌, ◌<◌, min}
 use native.Mathlib.Omega.{arith}
 use native.Mathlib.Numerals.{add-one, one-add}
 use native.Mathlib.Nat.{add-zero, add-suc}
@@ -10,27 +10,21 @@ use lib.Dec.{ltb, eqb}
 use lib.ListN.{get_or}
 use borrow.Author.Tests.{lt-ltb, le-ltb}
 use Rattle.digits.proofs.Bools.{and-true}
-use Rattle.component.specs.Kind.{kind_of}
-use Rattle.component.specs.Row.{kind, masked}
-use Rattle.component.proofs.ByKind.{middle-kind, last-kind, no-queue}
-use Rattle.cells.specs.Good.{emitted, good_byte, all, good_cell}
+use Rattle.component.specs.declared.kinds.Kind.{Kind}
+use Rattle.component.specs.declared.kinds.Kind.TheVariants.{Source, Sink, Queue, Function, Fork, Join, Switch, Merge}
+use Rattle.component.specs.Row.{kind}
+use Rattle.cells.specs.Good.{good_byte, all, good_cell}
 
-pub emitted-at : (r : List ℕ) (b : ℕ) → (b ≡ 0 → ⊥) → emitted r b ≡ (ltb (b - 1) 8 && masked r (b - 1))
-emitted-at r zero h = absurd (h refl)
-emitted-at r (suc d) h = let e : suc d - 1 ≡ d = omega arith in rw e
-
--- function, fork, join and switch; merge
-pub first_rest : (k : ℕ) (r : List ℕ) (c n b : ℕ) → (k ≡ 0 → ⊥) → (k ≡ 1 → ⊥) → (k ≡ 2 → ⊥) → k < 7 → eqb b 0 ≡ good_byte (kind_of k) r c n 0 b
+later-rest : (d : Kind) (r : List ℕ) (c n j b : ℕ) → (d ≡ Queue → ⊥) → eqb b 0 ≡ good_byte d r c n (suc j) b
 unfolding good_byte
-first_rest k r c n b = middle-kind (λ d. eqb b 0 ≡ good_byte d r c n 0 b) refl refl refl refl k
-
-pub first-merge : (k : ℕ) (r : List ℕ) (c n b : ℕ) → 7 ≤ k → ltb b 3 ≡ good_byte (kind_of k) r c n 0 b
-unfolding good_byte
-first-merge k r c n b l = rw (last-kind k l)
-
-later-rest : (k : ℕ) (r : List ℕ) (c n j b : ℕ) → (k ≡ 2 → ⊥) → eqb b 0 ≡ good_byte (kind_of k) r c n (suc j) b
-unfolding good_byte
-later-rest k r c n j b = no-queue (λ d. eqb b 0 ≡ good_byte d r c n (suc j) b) refl refl refl refl refl refl refl k
+later-rest Source r c n j b h = refl
+later-rest Sink r c n j b h = refl
+later-rest Queue r c n j b h = absurd (h refl)
+later-rest Function r c n j b h = refl
+later-rest Fork r c n j b h = refl
+later-rest Join r c n j b h = refl
+later-rest Switch r c n j b h = refl
+later-rest Merge r c n j b h = refl
 
 -- a turn of a loop that tests all numbers below a bound
 pub all-turn : (n : ℕ) (p : ℕ → Bool) (g t : Bool) → g ≡ all n p → t ≡ p n → (g && t) ≡ all (n + 1) p
@@ -70,16 +64,16 @@ cell-bad c row s h = sym (cell_parts c row s ∙ rw h)
 
 module _ (c : ℕ) (row s : List ℕ) (first : good_byte (kind row) row c (get_or s 0 0) 0 (get_or s 0 0) ≡ true) where
   -- of all but queues the rest is 0
-  pub cell-zeros : (get_or row 0 0 ≡ 2 → ⊥) → all 63 (λ j. eqb (get_or s (1 + j) 0) 0) ≡ good_cell c row s
+  pub cell-zeros : (kind row ≡ Queue → ⊥) → all 63 (λ j. eqb (get_or s (1 + j) 0) 0) ≡ good_cell c row s
   cell-zeros h =
-      sym (cell_parts c row s ∙ rw first (all_same 63 _ _ (λ j l. rw one-add (sym (later-rest (get_or row 0 0) row c (get_or s 0 0) j (get_or s (suc j) 0) h)))))
+      sym (cell_parts c row s ∙ rw first (all_same 63 _ _ (λ j l. rw one-add (sym (later-rest (kind row) row c (get_or s 0 0) j (get_or s (suc j) 0) h)))))
 
   -- of queues the first n are colours
-  pub cell-colours : (n : ℕ) → (n ≤ get_or s 0 0) × (n ≤ 63) × (n < 63 → n ≡ get_or s 0 0) → get_or row 0 0 ≡ 2 →
+  pub cell-colours : (n : ℕ) → n ≡ min (get_or s 0 0) 63 → kind row ≡ Queue →
       (all n (λ j. ltb (get_or s (1 + j) 0) c) && all (63 - n) (λ j. eqb (get_or s (n + 1 + j) 0) 0)) ≡ good_cell c row s
-  unfolding good_byte kind_of
+  unfolding good_byte
   cell-colours n w e =
-      let m : 63 ≡ n + (63 - n) = omega (arith, w.1) in
+      let m : 63 ≡ n + (63 - n) = omega (arith, w) in
       sym (cell_parts c row s ∙ rw first
       (ap (λ (i : ℕ). all i (λ j. byte_good c row s (1 + j))) m ∙ all_split n (63 - n) (λ j. byte_good c row s (1 + j))
       ∙ both (all_same n _ _ front) (all_same (63 - n) _ _ rest)))
@@ -91,10 +85,10 @@ module _ (c : ℕ) (row s : List ℕ) (first : good_byte (kind row) row c (get_o
       at j = rw (one-add, e)
 
       front : (j : ℕ) → j < n → byte_good c row s (1 + j) ≡ ltb (get_or s (1 + j) 0) c
-      front j l = at j ∙ rw (lt-ltb j (get_or s 0 0) (omega (arith, w.0)))
+      front j l = at j ∙ rw (lt-ltb j (get_or s 0 0) (omega (arith, w)))
 
       rest : (j : ℕ) → j < 63 - n → byte_good c row s (1 + (n + j)) ≡ eqb (get_or s (n + 1 + j) 0) 0
       rest j l =
-          let q : n ≡ get_or s 0 0 = w.2 (omega arith) in
+          let q : n ≡ get_or s 0 0 = omega (arith, w) in
           let i : 1 + (n + j) ≡ n + 1 + j = omega arith in
           at (n + j) ∙ rw (le-ltb (n + j) (get_or s 0 0) (omega arith), i)

@@ -1,24 +1,31 @@
 -- Laws of the sets of choices. Assumes nothing.
-use mathlib.Core.Path.{◌≡◌, refl, sym, ap₂, ◌∙◌}
-use mathlib.Core.Bool.{true, false}
+use mathlib.Core.Path.{◌≡◌, refl, sym, ap, ◌∙◌}
+use mathlib.Core.Bool.{Bool, true, false, not}
 use mathlib.Core.List.{List}
-use Prim.Native.Nat.{ℕ, zero, suc, ◌+◌, ◌-◌, ◌/◌, ◌%◌, ◌^◌, ◌≤◌, ◌<◌}
+use Prim.Native.Nat.{ℕ, zero, suc, ◌+◌, ◌-◌, ◌*◌, ◌/◌, ◌%◌, ◌^◌, ◌≤◌, ◌<◌}
 use native.Mathlib.Omega.{arith}
-use native.Mathlib.Nat.{mod-eq_of_lt, mod-lt, zero-mod, add-mod_right, mod-add-mod}
+use native.Mathlib.Nat.{mod-lt, mul-le-mul, div-add-mod, lt_of_mul-lt-mul_left}
 use native.Mathlib.Decide.{ℕ_discrete, dec_lt}
 use lib.Dec.{ltb, eqb}
-use lib.ListN.{length, get_or, take, drop, set, length-set}
-use lib.Seq.{get_or-drop, get_or-take, get_or-set_same, get_or-set_other}
-use borrow.Author.Tests.{lt-ltb, le-ltb, eq-eqb, ne_eqb}
+use lib.ListN.{length, get_or, set, length-set}
+use lib.Seq.{get_or-set_same, get_or-set_other}
+use borrow.Author.Tests.{lt-ltb, le-ltb, eq-eqb, ne_eqb, not-false}
+use Rattle.digits.specs.Least.{least}
+use Rattle.digits.proofs.Least.{least-le, least-before}
 use Rattle.record.specs.Table.{row}
-use Rattle.component.specs.Kind.{Kind, source, sink, queue, function, fork, join, switch, merge, kind_of}
-use Rattle.component.specs.Row.{kind_number, kind, mask}
+use Rattle.component.specs.declared.kinds.Kind.{Kind}
+use Rattle.component.specs.declared.kinds.Kind.TheVariants.{Source, Sink, Queue, Function, Fork, Join, Switch, Merge}
+use Rattle.component.specs.Row.{kind, mask}
 use Rattle.component.specs.Limits.{most_components}
 use Rattle.component.proofs.Row.{each-kind}
 use Rattle.netlist.specs.Netlist.{Netlist}
-use Rattle.cells.specs.Choices.{good_choice, choice_at}
+use Rattle.cells.specs.Choices.{good_choice, choice_at, bad_choice}
 use Rattle.cells.specs.Good.{emitted, all}
 use Rattle.cells.proofs.Good.{all-at}
+use Rattle.std.proofs.Common.{Some, None}
+use Rattle.search.specs.First.{first}
+use Rattle.good.specs.First.{first_below}
+use Rattle.good.proofs.First.{found_from, none_from}
 use Rattle.good.specs.Sets.{in_set, choice_set, ChoiceSets}
 
 -- bit 8 - b
@@ -71,40 +78,26 @@ one_in b = go (dec_lt b 9)
 -- a choice is in the set of a component where it is allowed
 pub set-good : (k : Kind) (row : List ℕ) (b : ℕ) → mask row < 256 → in_set (choice_set k (mask row)) b ≡ good_choice k row b
 unfolding choice_set good_choice
-set-good source row b h = source_in row b h
-set-good sink row b h = two_in b
-set-good queue row b h = one_in b
-set-good function row b h = one_in b
-set-good fork row b h = one_in b
-set-good join row b h = one_in b
-set-good switch row b h = one_in b
-set-good merge row b h = two_in b
+set-good Source row b h = source_in row b h
+set-good Sink row b h = two_in b
+set-good Queue row b h = one_in b
+set-good Function row b h = one_in b
+set-good Fork row b h = one_in b
+set-good Join row b h = one_in b
+set-good Switch row b h = one_in b
+set-good Merge row b h = two_in b
 
 -- a turn of `choice_sets`
 pub no-sets : (table sets : List ℕ) → length sets ≡ most_components → ChoiceSets table 0 sets
 no-sets table sets l = record { long = l; at = λ k b h. absurd (omega arith) }
 
-pub more-sets : (table sets : List ℕ) (k v : ℕ) {x m : ℕ} → k < most_components → m < 256 → x ≡ kind_number (row table k) → m ≡ mask (row table k) →
-    v ≡ choice_set (kind_of x) m → ChoiceSets table k sets → ChoiceSets table (k + 1) (set sets k v)
-more-sets table sets k v h l ex em e z = record { long = simp length-set z.long; at = λ i b l. go i b l (ℕ_discrete i k) }
+pub more-sets : (table sets : List ℕ) (k v : ℕ) → k < most_components → mask (row table k) < 256 →
+    v ≡ choice_set (kind (row table k)) (mask (row table k)) → ChoiceSets table k sets → ChoiceSets table (k + 1) (set sets k v)
+more-sets table sets k v h l is z = record { long = simp length-set z.long; at = λ i b l. go i b l (ℕ_discrete i k) }
   where
-    is : v ≡ choice_set (kind (row table k)) (mask (row table k))
-    is = e ∙ ap₂ (λ (n d : ℕ). choice_set (kind_of n) d) ex em
-
     go : (i b : ℕ) → i < k + 1 → Dec (i ≡ k) → in_set (get_or (set sets k v) i 0) b ≡ good_choice (kind (row table i)) (row table i) b
-    go i b j (yes q) =
-        let f : mask (row table k) < 256 = rw (← em) l in
-        rw (q, get_or-set_same sets k v 0 (omega (arith, z.long)), is) (set-good (kind (row table k)) (row table k) b f)
+    go i b j (yes q) = rw (q, get_or-set_same sets k v 0 (omega (arith, z.long)), is) (set-good (kind (row table k)) (row table k) b l)
     go i b l (no q) = rw (get_or-set_other sets k i v 0 q) (z.at i b (omega (arith, q)))
-
--- the choices of the steps at the front are allowed, up to offset o
-pub record Cleared (f : Netlist) (choices : List ℕ) (o : ℕ) : Type 0 where
-  pub few : o ≤ length choices
-  pub steps : o % f.components ≡ 0
-  pub each : (i : ℕ) → i < o → choice_at f choices i ≡ true
-
-pub none-cleared : (f : Netlist) (choices : List ℕ) → Cleared f choices 0
-none-cleared f choices = record { few = omega arith; steps = zero-mod f.components; each = λ i h. absurd (omega arith) }
 
 module _ (f : Netlist) (sets choices : List ℕ) (z : ChoiceSets f.table f.components sets) (some : 0 < f.components) where
   -- the choice at an offset
@@ -112,28 +105,41 @@ module _ (f : Netlist) (sets choices : List ℕ) (z : ChoiceSets f.table f.compo
   unfolding choice_at
   choice-is o = z.at (o % f.components) (get_or choices o 0) (mod-lt o some)
 
-  -- a turn of `allowed_steps`
-  module _ (o : ℕ) (u : Cleared f choices o) (fits : o + f.components ≤ length choices)
-      (good : all f.components (λ k. in_set (get_or sets k 0) (get_or (take f.components (drop o choices)) k 0)) ≡ true) where
-    offset : (j : ℕ) → j < f.components → (o + j) % f.components ≡ j
-    offset j l = sym (mod-add-mod o f.components j) ∙ rw u.steps (mod-eq_of_lt (omega arith) ∙ omega arith)
+  abbrev bad_step : ℕ → Bool
+  bad_step j = not (all f.components (λ k. in_set (get_or sets k 0) (get_or choices (f.components * j + k) 0)))
 
-    here : (j : ℕ) → j < f.components → choice_at f choices (o + j) ≡ true
-    here j l =
-        sym (choice-is (o + j))
-        ∙ rw (offset j l)
-        (rw (get_or-take f.components (drop o choices) j 0 l, get_or-drop o choices j 0) at
-        (all-at f.components (λ k. in_set (get_or sets k 0) (get_or (take f.components (drop o choices)) k 0)) good j l))
+  -- the steps before the first that has a choice which is not allowed
+  module _ (m : ℕ) (is : m ≡ least bad_step (length choices / f.components)) where
+    pub steps-fit : f.components * m ≤ length choices
+    steps-fit =
+        let n = f.components in
+        let few : m ≤ length choices / n = rw is (least-le bad_step (length choices / n)) in
+        let k : n ≤ n = omega arith in
+        let l : n * m ≤ n * (length choices / n) = mul-le-mul k few in
+        omega (arith, l, div-add-mod (length choices) n)
 
-    pub more-cleared : Cleared f choices (o + f.components)
-    more-cleared = record {
-      few = fits;
-      steps = add-mod_right o f.components ∙ u.steps;
-      each = λ i h. go i h (dec_lt i o);
-    }
-      where
-        go : (i : ℕ) → i < o + f.components → Dec (i < o) → choice_at f choices i ≡ true
-        go i h (yes l) = u.each i l
-        go i h (no l) =
-            let e : o + (i - o) ≡ i = omega arith in
-            rw e at (here (i - o) (omega arith))
+    pub steps-allowed : (o : ℕ) → o < f.components * m → choice_at f choices o ≡ true
+    steps-allowed o h =
+        let n = f.components in
+        let e : n * (o / n) + o % n ≡ o = div-add-mod o n in
+        let j : o / n < m = lt_of_mul-lt-mul_left n (omega (arith, h, e)) in
+        let good = not-false _ (least-before bad_step (length choices / n) (o / n) (rw is at j)) in
+        sym (choice-is o) ∙ (rw e at (all-at n (λ k. in_set (get_or sets k 0) (get_or choices (n * (o / n) + k) 0)) good (o % n) (mod-lt o some)))
+
+    -- then the other choices, one after the other
+    abbrev pub bad_here : ℕ → Bool
+    bad_here i = not (in_set (get_or sets ((f.components * m + i) % f.components) 0) (get_or choices (f.components * m + i) 0))
+
+    here : (i : ℕ) → bad_here i ≡ not (choice_at f choices (f.components * m + i))
+    here i = ap not (choice-is (f.components * m + i))
+
+    before : (j : ℕ) → j < f.components * m → not (choice_at f choices j) ≡ false
+    before j h = ap not (steps-allowed j h)
+
+    pub choice-found : (o : ℕ) → first bad_here (length choices - f.components * m) ≡ Some o → Some (f.components * m + o) ≡ first_below (bad_choice f choices) (length choices)
+    unfolding bad_choice
+    choice-found o e = sym (found_from (λ o. not (choice_at f choices o)) (length choices) (f.components * m) steps-fit before bad_here here o e)
+
+    pub none-found : first bad_here (length choices - f.components * m) ≡ None → None ≡ first_below (bad_choice f choices) (length choices)
+    unfolding bad_choice
+    none-found e = sym (none_from (λ o. not (choice_at f choices o)) (length choices) (f.components * m) steps-fit before bad_here here e)

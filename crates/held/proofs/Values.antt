@@ -1,13 +1,13 @@
--- Laws of the values of signals. Assumes nothing.
-use mathlib.Core.Path.{◌≡◌, refl, ap}
-use mathlib.Core.Bool.{Bool, true, false, not}
+-- Laws of the values of signals, and the same of offers and flags as numbers. Assumes nothing.
+use mathlib.Core.Path.{◌≡◌, refl, ap, ◌∙◌}
+use mathlib.Core.Bool.{Bool, true, false, not, ◌&&◌, ◌||◌}
 use Prim.Native.Nat.{ℕ, zero, suc}
 use lib.Dec.{eqb, eqb-suc-zero}
-use Rattle.held.specs.Values.{bit, unless, offered, when, or_else}
-
-pub offered-bit : (b : Bool) → bit b ≡ offered (bit b)
-offered-bit true = refl
-offered-bit false = refl
+use Rattle.std.specs.Prelude.{if◌then◌else◌}
+use Rattle.std.specs.Int.{from_bool}
+use Rattle.held.specs.declared.Offer.{Offer}
+use Rattle.held.specs.declared.Offer.TheVariants.{Nothing, Colour}
+use Rattle.held.specs.Values.{offer_number, is_colour, first_colour, bit, unless, offered, when, or_else}
 
 pub when-open : (n v : ℕ) → (n ≡ 0 → ⊥) → v ≡ when n v
 when-open zero v h = absurd (h refl)
@@ -21,19 +21,54 @@ pub unless-none : (g : ℕ) → unless g 0 ≡ 0
 unless-none zero = refl
 unless-none (suc g) = refl
 
-pub bit-nonzero : (n : ℕ) → bit (not (eqb n 0)) ≡ offered n
-bit-nonzero zero = refl
-bit-nonzero (suc n) = ap (λ (b : Bool). bit (not b)) (eqb-suc-zero n)
+pub bit_nonzero : (n : ℕ) → bit (not (eqb n 0)) ≡ offered n
+bit_nonzero zero = refl
+bit_nonzero (suc n) = ap (λ (b : Bool). bit (not b)) (eqb-suc-zero n)
 
--- a byte as a flag is as good a first choice as the byte
-pub offered-or : (m n : ℕ) → offered (or_else (bit (not (eqb m 0))) (bit (not (eqb n 0)))) ≡ offered (or_else m n)
-offered-or m n = rw (bit-nonzero m, bit-nonzero n) (flags m n)
-  where
-    flags : (m n : ℕ) → offered (or_else (offered m) (offered n)) ≡ offered (or_else m n)
-    flags zero zero = refl
-    flags zero (suc n) = refl
-    flags (suc m) n = refl
+-- two bytes as flags
+pub either_byte : (m n : ℕ) → bit (not (eqb m 0) || not (eqb n 0)) ≡ offered (or_else m n)
+either_byte zero n = bit_nonzero n
+either_byte (suc m) n = ap (λ (b : Bool). bit (not b || not (eqb n 0))) (eqb-suc-zero m)
 
-pub when-not : (b : Bool) (v : ℕ) → when (bit (not b)) v ≡ unless (bit b) v
-when-not true v = refl
-when-not false v = refl
+pub both_flags : (p q : Bool) → bit (p && q) ≡ when (bit p) (bit q)
+both_flags true q = refl
+both_flags false q = refl
+
+pub when_not : (b : Bool) (v : ℕ) → when (bit (not b)) v ≡ unless (bit b) v
+when_not true v = refl
+when_not false v = refl
+
+-- offers as numbers
+pub colour_flag : (o : Offer) → bit (is_colour o) ≡ offered (offer_number o)
+colour_flag Nothing = refl
+colour_flag (Colour d) = refl
+
+pub first_number : (a b : Offer) → offer_number (first_colour a b) ≡ or_else (offer_number a) (offer_number b)
+first_number Nothing b = refl
+first_number (Colour d) b = refl
+
+pub passed_number : (g : Bool) (o : Offer) → offer_number (if g then o else Nothing) ≡ when (bit g) (offer_number o)
+passed_number true o = refl
+passed_number false o = refl
+
+-- what a source and a sink hold
+pub held_number : (t : Bool) (o : Offer) → offer_number (if t then Nothing else o) ≡ unless (bit t) (offer_number o)
+held_number true o = refl
+held_number false o = refl
+
+pub held_flag : (t : Bool) (o : Offer) → bit (t && not (is_colour o)) ≡ unless (offered (offer_number o)) (bit t)
+held_flag true Nothing = refl
+held_flag true (Colour d) = refl
+held_flag false Nothing = refl
+held_flag false (Colour d) = refl
+
+-- flags and offers of the code as numbers
+pub ruleset numbers = (colour_flag, first_number, passed_number, both_flags, when_not)
+
+-- the byte of a flag
+pub flag_byte : (b : Bool) → from_bool b ≡ bit b
+flag_byte true = refl
+flag_byte false = refl
+
+pub came_byte : (m : ℕ) → from_bool (not (eqb m 0)) ≡ offered m
+came_byte m = flag_byte (not (eqb m 0)) ∙ bit_nonzero m

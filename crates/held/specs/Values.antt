@@ -9,6 +9,15 @@ abbrev pub offer_number : Offer → ℕ
 offer_number Nothing = 0
 offer_number (Colour d) = suc d
 
+-- whether it is a colour, and the first of two that is
+abbrev pub is_colour : Offer → Bool
+is_colour Nothing = false
+is_colour (Colour d) = true
+
+abbrev pub first_colour : Offer → Offer → Offer
+first_colour Nothing b = b
+first_colour (Colour d) b = Colour d
+
 abbrev pub bit : Bool → ℕ
 bit false = 0
 bit true = 1

@@ -1,151 +1,185 @@
 // An offer, the two signals of a channel, and what a source, a sink and a merge hold over a step.
 #![tactic(auto)]
 
-ghost use Rattle.std.specs.Prelude.{◌≡◌, suc, ◌≤◌};
-ghost use Rattle.held.specs.Values.{offer_number, bit, when, unless, offered, or_else};
-ghost use Rattle.held.specs.Picks.{picks_b};
+ghost use Rattle.std.specs.Prelude.{◌≡◌, suc, ◌≤◌, ◌&&◌, ◌||◌, not, if◌then◌else◌};
+ghost use Rattle.held.specs.declared.Offer.TheVariants.{Nothing};
+ghost use Rattle.held.specs.Values.{offer_number, bit, when, unless, is_colour, first_colour};
+ghost use Rattle.held.specs.Picks.{pick_number, pick_of, picks_b};
 
-// An offer: nothing, or a colour.
-#[derive(Clone, Copy)]
+/// An offer: nothing, or a colour.
+#[derive(Clone, Copy, Debug, PartialEq, Eq)]
 pub enum Offer {
     Nothing,
     Colour(u8),
 }
 
-// The two signals of a channel.
-#[derive(Clone, Copy)]
+impl Offer {
+    pub fn is_colour(self) -> bool
+        ensures { result ≡ is_colour self }
+    {
+        match self {
+            Offer::Colour(_) => true,
+            Offer::Nothing => false,
+        }
+    }
+
+    /// The offer, or nothing where it is not let through.
+    pub fn only_if(self, passes: bool) -> Offer
+        ensures { result ≡ (if passes then self else Nothing) }
+    {
+        if passes { self } else { Offer::Nothing }
+    }
+}
+
+/// The offer that a byte of the state or of the choices says: 0 for nothing, else 1 + the colour.
+impl From<u8> for Offer {
+    ghost from_gives = { λ byte offer. offer_number offer ≡ byte };
+
+    fn from(byte: u8) -> Offer {
+        match byte {
+            0 => Offer::Nothing,
+            _ => Offer::Colour(byte - 1),
+        }
+    }
+}
+
+/// The byte that says an offer; 0 for a colour of 255, which no fabric has.
+impl From<Offer> for u8 {
+    ghost from_gives = { λ offer byte. offer_number offer ≤ 255 → byte ≡ offer_number offer };
+
+    fn from(offer: Offer) -> u8 {
+        match offer {
+            Offer::Colour(colour) if colour < 255 => colour + 1,
+            _ => 0,
+        }
+    }
+}
+
+/// The two signals of a channel.
+#[derive(Clone, Copy, Debug, PartialEq, Eq)]
 pub struct Channel {
     pub offer: Offer,
     pub take: bool,
 }
 
-// What a source holds over a step.
-#[derive(Clone, Copy)]
+/// What a source holds over a step.
+#[derive(Clone, Copy, Debug, PartialEq, Eq)]
 pub struct HeldSource {
     pub held: Offer,
 }
 
 impl HeldSource {
-    // The held colour if it has one, else its choice.
+    /// The held colour if it has one, else its choice.
     pub fn offer(self, choice: Offer) -> Offer
-        ensures { offer_number result ≡ or_else (offer_number self.held) (offer_number choice) }
+        ensures { result ≡ first_colour self.held choice }
     {
-        let h = self.held;
-        match h {
-            Offer::Colour(_) => h,
+        match self.held {
+            Offer::Colour(_) => self.held,
             Offer::Nothing => choice,
         }
     }
 
-    // It holds its colour if it was offered and not taken.
+    /// It holds its colour if it was offered and not taken.
     pub fn next(self, channel: Channel) -> HeldSource
-        ensures { offer_number result.held ≡ unless (bit channel.take) (offer_number channel.offer) }
+        ensures { result.held ≡ (if channel.take then Nothing else channel.offer) }
     {
-        let o = channel.offer;
-        if channel.take {
-            return HeldSource {
-                held: Offer::Nothing,
-            };
+        HeldSource {
+            held: channel.offer.only_if(!channel.take),
         }
-        HeldSource { held: o }
     }
 }
 
-// What a sink holds over a step.
-#[derive(Clone, Copy)]
+/// What a sink holds over a step.
+#[derive(Clone, Copy, Debug, PartialEq, Eq)]
 pub struct HeldSink {
     pub held: bool,
 }
 
 impl HeldSink {
-    // It takes if held or chosen.
+    /// It takes if held or chosen.
     pub fn take(self, chosen: bool) -> bool
-        ensures { bit result ≡ offered (or_else (bit self.held) (bit chosen)) }
+        ensures { result ≡ (self.held || chosen) }
     {
-        if self.held {
-            return true;
-        }
-        chosen
+        self.held | chosen
     }
 
-    // It holds if it took and nothing was offered.
+    /// It holds if it took and nothing was offered.
     pub fn next(self, channel: Channel) -> HeldSink
-        ensures { bit result.held ≡ unless (offered (offer_number channel.offer)) (bit channel.take) }
+        ensures { result.held ≡ (channel.take && not (is_colour channel.offer)) }
     {
-        let o = channel.offer;
-        let t = channel.take;
-        match o {
-            Offer::Colour(_) => HeldSink { held: false },
-            Offer::Nothing => HeldSink { held: t },
+        HeldSink {
+            held: channel.take & !channel.offer.is_colour(),
         }
     }
 }
 
-// What a merge holds over a step: its pick, 1 for A and 2 for B, or 0 for none.
-#[derive(Clone, Copy)]
+/// The input that a merge is bound to.
+#[derive(Clone, Copy, Debug, PartialEq, Eq)]
+pub enum Pick {
+    Free,
+    A,
+    B,
+}
+
+/// The pick that a byte of the state says: 0 for none, 1 for A, else B.
+impl From<u8> for Pick {
+    ghost from_gives = { λ byte pick. pick ≡ pick_of byte };
+
+    fn from(byte: u8) -> Pick {
+        match byte {
+            0 => Pick::Free,
+            1 => Pick::A,
+            _ => Pick::B,
+        }
+    }
+}
+
+/// The byte that says a pick.
+impl From<Pick> for u8 {
+    ghost from_gives = { λ pick byte. byte ≡ pick_number pick };
+
+    fn from(pick: Pick) -> u8 {
+        match pick {
+            Pick::Free => 0,
+            Pick::A => 1,
+            Pick::B => 2,
+        }
+    }
+}
+
+/// What a merge holds over a step: its pick.
+#[derive(Clone, Copy, Debug, PartialEq, Eq)]
 pub struct HeldMerge {
-    pub held: u8,
+    pub held: Pick,
 }
 
 impl HeldMerge {
-    // Its pick, true for B: while the held input is offered it is picked over the choice; else, if both inputs are offered the choice
-    // picks, else the one offered.
+    /// Its pick, true for B: while the held input is offered it is picked over the choice; else, if both inputs are offered the choice
+    /// picks, else the one offered.
+    #[tactic(auto, using(crate::proofs::Values::bit_nonzero), unfolding(crate::specs::Picks::picks_b))]
     pub fn picks_b(self, choice: u8, a: Offer, b: Offer) -> bool
-        ensures { bit result ≡ picks_b self.held choice (offer_number a) (offer_number b) }
+        ensures { bit result ≡ picks_b (pick_number self.held) choice (offer_number a) (offer_number b) }
     {
-        let held = self.held;
-        match a {
-            Offer::Colour(_) => match b {
-                // B if it is held, or if nothing is and the choice names it.
-                Offer::Colour(_) => (1 < held) | (held == 0) & (choice != 0),
-                Offer::Nothing => false,
-            },
-            Offer::Nothing => true,
+        match (a, b, self.held) {
+            (Offer::Nothing, _, _) => true,
+            (_, Offer::Nothing, _) => false,
+            (_, _, Pick::Free) => choice != 0,
+            (_, _, Pick::A) => false,
+            (_, _, Pick::B) => true,
         }
     }
 
-    // It keeps its pick if its output was offered and not taken.
+    /// It keeps its pick if its output was offered and not taken.
     pub fn next(self, choice: u8, a: Offer, b: Offer, output: Channel) -> HeldMerge
-        ensures { result.held ≡ unless (bit output.take) (when (offer_number output.offer) (suc (picks_b self.held choice (offer_number a) (offer_number b)))) }
+        ensures { pick_number result.held ≡ unless (bit output.take) (when (offer_number output.offer)
+            (suc (picks_b (pick_number self.held) choice (offer_number a) (offer_number b)))) }
     {
-        let o = output.offer;
-        if output.take {
-            return HeldMerge { held: 0 };
-        }
-        match o {
-            Offer::Nothing => HeldMerge { held: 0 },
-            Offer::Colour(_) => {
-                let g = self.picks_b(choice, a, b);
-                if g {
-                    return HeldMerge { held: 2 };
-                }
-                HeldMerge { held: 1 }
-            }
-        }
-    }
-}
-
-// The offer that a byte of the state or of the choices says.
-pub fn offer_of_byte(n: u8) -> Offer
-    ensures { offer_number result ≡ n }
-{
-    if n == 0 {
-        return Offer::Nothing;
-    }
-    Offer::Colour(n - 1)
-}
-
-// The byte that says an offer; 0 for a colour of 255, which no fabric has.
-pub fn byte_of_offer(o: Offer) -> u8
-    ensures { offer_number o ≤ 255 → result ≡ offer_number o }
-{
-    match o {
-        Offer::Colour(d) => {
-            if d < 255 {
-                return d + 1;
-            }
-            0
-        }
-        Offer::Nothing => 0,
+        let held = match (output.take, output.offer) {
+            (true, _) => Pick::Free,
+            (_, Offer::Nothing) => Pick::Free,
+            _ if self.picks_b(choice, a, b) => Pick::B,
+            _ => Pick::A,
+        };
+        HeldMerge { held }
     }
 }

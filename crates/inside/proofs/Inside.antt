@@ -7,7 +7,10 @@ use native.Mathlib.Omega.{arith}
 use lib.Dec.{eqb}
 use lib.ListN.{get_or}
 use borrow.Author.Tests.{eqb-true}
-use Rattle.component.specs.Kind.{source, queue, Port, A, B, port_use, is_output, is_input}
+use Rattle.component.specs.declared.kinds.Kind.TheVariants.{Source, Queue}
+use Rattle.component.specs.declared.kinds.Port.{Port}
+use Rattle.component.specs.declared.kinds.Port.TheVariants.{A, B}
+use Rattle.component.specs.Kind.{port_use, is_output, is_input}
 use Rattle.component.specs.Row.{kind, port, filling, fill_colour}
 use Rattle.wiring.specs.Signals.{offer_a, offer_b}
 use Rattle.netlist.specs.Netlist.{Netlist, row_of}
@@ -32,11 +35,11 @@ use Rattle.inside.proofs.Offers.{Within, when-in, unless-in, emitted-in, Has, of
 
 -- start: the fillings, and nothing held
 module _ (f : Netlist) (ends order : List ℕ) (a : AcceptedFabric f ends order) (s : List ℕ) where
-  nothing : (k : ℕ) → k < f.components → kind (row_of f k) ≡ source → get_or (cell (started f s) k) 0 0 ≡ 0
+  nothing : (k : ℕ) → k < f.components → kind (row_of f k) ≡ Source → get_or (cell (started f s) k) 0 0 ≡ 0
   unfolding start_cell
   nothing k h e = rw (cell-started f ends order a s k h, e)
 
-  fills : (q : ℕ) → q < f.components → kind (row_of f q) ≡ queue → (d : ℕ) → 0 < counts (started f s) q d → Reaches f (port (row_of f q) B) d
+  fills : (q : ℕ) → q < f.components → kind (row_of f q) ≡ Queue → (d : ℕ) → 0 < counts (started f s) q d → Reaches f (port (row_of f q) B) d
   fills q h e d l = go (eqb d (fill_colour (row_of f q))) refl (rw (start-counts f ends order a s q h e d) at l)
     where
       go : (b : Bool) → eqb d (fill_colour (row_of f q)) ≡ b → 0 < cond b (filling (row_of f q)) 0 → Reaches f (port (row_of f q) B) d
@@ -94,18 +97,18 @@ module _ (f : Netlist) (ends order state choices : List ℕ) (t : CanStep f ends
 
   module _ (k : ℕ) (h : k < f.components) where
     -- what a queue counts was there or came in
-    queue-step : kind (row_of f k) ≡ queue → (d : ℕ) → 0 < counts (next f state choices) k d → Reaches f (port (row_of f k) B) d
+    queue-step : kind (row_of f k) ≡ Queue → (d : ℕ) → 0 < counts (next f state choices) k d → Reaches f (port (row_of f k) B) d
     unfolding Balanced
     queue-step e d l =
         counted _ _ _ _ d (rw e at (balanced f ends order state choices t k h) d) l (i.queues k h e d)
         (λ q. by_queue k d h e (inside-moved (port (row_of f k) A) d ((t.accepted.rows k h).ports A) q))
 
-    byte : kind (row_of f k) ≡ source → get_or (cell (next f state choices) k) 0 0 ≡ unless (v (2 * port (row_of f k) A + 1)) (v (2 * port (row_of f k) A))
+    byte : kind (row_of f k) ≡ Source → get_or (cell (next f state choices) k) 0 0 ≡ unless (v (2 * port (row_of f k) A + 1)) (v (2 * port (row_of f k) A))
     unfolding next_at cell_next
     byte e = rw (next-cell f ends order state choices t k h, e)
 
     -- what a source holds was offered
-    source-step : kind (row_of f k) ≡ source → (d : ℕ) → get_or (cell (next f state choices) k) 0 0 ≡ suc d → Reaches f (port (row_of f k) A) d
+    source-step : kind (row_of f k) ≡ Source → (d : ℕ) → get_or (cell (next f state choices) k) 0 0 ≡ suc d → Reaches f (port (row_of f k) A) d
     source-step e d q =
         let x = port (row_of f k) A in
         (unless-in (v (2 * x + 1)) (v (2 * x)) (offers x ((t.accepted.rows k h).ports A))).each d (sym (byte e) ∙ q)

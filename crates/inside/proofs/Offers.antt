@@ -8,7 +8,11 @@ use lib.Dec.{ltb}
 use lib.ListN.{length, get_or}
 use borrow.Author.Tests.{eq-eqb}
 use Rattle.digits.proofs.Bools.{and_both}
-use Rattle.component.specs.Kind.{Kind, source, sink, queue, function, fork, join, switch, merge, Port, A, B, C, port_use, is_output}
+use Rattle.component.specs.declared.kinds.Kind.{Kind}
+use Rattle.component.specs.declared.kinds.Kind.TheVariants.{Source, Sink, Queue, Function, Fork, Join, Switch, Merge}
+use Rattle.component.specs.declared.kinds.Port.{Port}
+use Rattle.component.specs.declared.kinds.Port.TheVariants.{A, B, C}
+use Rattle.component.specs.Kind.{port_use, is_output}
 use Rattle.component.specs.Row.{kind, port, first_map, second_map, masked}
 use Rattle.wiring.specs.Signals.{Near, offer_a, offer_b, take_b, take_c, depends_on, has}
 use Rattle.netlist.specs.Netlist.{Netlist, row_of}
@@ -67,15 +71,15 @@ module _ (f : Netlist) (k : ℕ) (h : k < f.components) where
   row = row_of f k
 
   -- a colour that a source emits
-  pub emitted-in : (ends order : List ℕ) → AcceptedFabric f ends order → kind row ≡ source → (b : ℕ) → emitted row b ≡ true → Within f (port row A) b
+  pub emitted-in : (ends order : List ℕ) → AcceptedFabric f ends order → kind row ≡ Source → (b : ℕ) → emitted row b ≡ true → Within f (port row A) b
   emitted-in ends order a e zero i = none
   emitted-in ends order a e (suc d) i = one (by_source k d h e (emitted-le f ends order a k h (suc d) i) (and_both (ltb d 8) (masked row d) i).1)
 
-  join-in : kind row ≡ join → (o t : ℕ) → Within f (port row A) o → Within f (port row B) t → Within f (port row C) (when (offered t) (mapped (first_map row) o))
+  join-in : kind row ≡ Join → (o t : ℕ) → Within f (port row A) o → Within f (port row B) t → Within f (port row C) (when (offered t) (mapped (first_map row) o))
   join-in e o zero v w = none
   join-in e o (suc t) v w = mapped_in (first_map row) o v (λ d r. by_join k d t h e r (w.each t refl))
 
-  switch-b : kind row ≡ switch → (o : ℕ) → Within f (port row A) o → Within f (port row B) (when (to_b row o) o)
+  switch-b : kind row ≡ Switch → (o : ℕ) → Within f (port row A) o → Within f (port row B) (when (to_b row o) o)
   switch-b e zero w = none
   switch-b e (suc d) w = go (masked row d) refl
     where
@@ -83,7 +87,7 @@ module _ (f : Netlist) (k : ℕ) (h : k < f.components) where
       go true i = one (by_switch_b k d h e (w.each d refl) i)
       go false i = none
 
-  switch-c : kind row ≡ switch → (o : ℕ) → Within f (port row A) o → Within f (port row C) (unless (to_b row o) o)
+  switch-c : kind row ≡ Switch → (o : ℕ) → Within f (port row A) o → Within f (port row C) (unless (to_b row o) o)
   switch-c e zero w = none
   switch-c e (suc d) w = go (masked row d) refl
     where
@@ -91,43 +95,43 @@ module _ (f : Netlist) (k : ℕ) (h : k < f.components) where
       go true i = none
       go false i = one (by_switch_c k d h e (w.each d refl) i)
 
-  merge_in : kind row ≡ merge → (g a b : ℕ) → Within f (port row A) a → Within f (port row B) b → Within f (port row C) (either g a b)
+  merge_in : kind row ≡ Merge → (g a b : ℕ) → Within f (port row A) a → Within f (port row B) b → Within f (port row C) (either g a b)
   merge_in e g a b v w =
       either-in g a b (record { each = λ d q. by_merge_a k d h e (v.each d q) }) (record { each = λ d q. by_merge_b k d h e (w.each d q) })
 
   -- the colours that a component has by its bytes s and its choice: those that a queue counts, those that a source holds or chooses
   pub record Has (s : List ℕ) (choice : ℕ) : Type 0 where
     pub long : length s ≡ cell_size
-    pub queued : kind row ≡ queue → (d : ℕ) → 0 < count_in (queue_colours s) d → Reaches f (port row B) d
-    pub holds : kind row ≡ source → Within f (port row A) (get_or s 0 0)
-    pub chosen : kind row ≡ source → Within f (port row A) choice
+    pub queued : kind row ≡ Queue → (d : ℕ) → 0 < count_in (queue_colours s) d → Reaches f (port row B) d
+    pub holds : kind row ≡ Source → Within f (port row A) (get_or s 0 0)
+    pub chosen : kind row ≡ Source → Within f (port row A) choice
 
   module _ (s : List ℕ) (choice : ℕ) (c : Has s choice) (v : Near → ℕ) where
     -- the offer at an output port; a and b: what the rule reads at ports A and B is within their sets
     pub offer-in : (d : Kind) → kind row ≡ d → (p : Port) → is_output (port_use d p) ≡ true → (has (depends_on d p) offer_a ≡ true → Within f (port row A) (v offer_a)) →
         (has (depends_on d p) offer_b ≡ true → Within f (port row B) (v offer_b)) → Within f (port row p) (rule d p (component_with row s choice) v)
     unfolding rule depends_on port_use
-    offer-in source e A o a b = or_else-in (get_or s 0 0) choice (c.holds e) (c.chosen e)
-    offer-in source e B o a b = none
-    offer-in source e C o a b = none
-    offer-in sink e A o a b = absurd (false≢true o)
-    offer-in sink e B o a b = none
-    offer-in sink e C o a b = none
-    offer-in queue e A o a b = absurd (false≢true o)
-    offer-in queue e B o a b = front-in s c.long (c.queued e)
-    offer-in queue e C o a b = none
-    offer-in function e A o a b = absurd (false≢true o)
-    offer-in function e B o a b = mapped_in (first_map row) (v offer_a) (a refl) (λ d r. by_function k d h e r)
-    offer-in function e C o a b = none
-    offer-in fork e A o a b = absurd (false≢true o)
-    offer-in fork e B o a b = when-in (v take_c) (mapped (first_map row) (v offer_a)) (mapped_in (first_map row) (v offer_a) (a refl) (λ d r. by_fork_b k d h e r))
-    offer-in fork e C o a b = when-in (v take_b) (mapped (second_map row) (v offer_a)) (mapped_in (second_map row) (v offer_a) (a refl) (λ d r. by_fork_c k d h e r))
-    offer-in join e A o a b = absurd (false≢true o)
-    offer-in join e B o a b = absurd (false≢true o)
-    offer-in join e C o a b = join-in e (v offer_a) (v offer_b) (a refl) (b refl)
-    offer-in switch e A o a b = absurd (false≢true o)
-    offer-in switch e B o a b = switch-b e (v offer_a) (a refl)
-    offer-in switch e C o a b = switch-c e (v offer_a) (a refl)
-    offer-in merge e A o a b = absurd (false≢true o)
-    offer-in merge e B o a b = absurd (false≢true o)
-    offer-in merge e C o a b = merge_in e (picks_b (get_or s 0 0) choice (v offer_a) (v offer_b)) (v offer_a) (v offer_b) (a refl) (b refl)
+    offer-in Source e A o a b = or_else-in (get_or s 0 0) choice (c.holds e) (c.chosen e)
+    offer-in Source e B o a b = none
+    offer-in Source e C o a b = none
+    offer-in Sink e A o a b = absurd (false≢true o)
+    offer-in Sink e B o a b = none
+    offer-in Sink e C o a b = none
+    offer-in Queue e A o a b = absurd (false≢true o)
+    offer-in Queue e B o a b = front-in s c.long (c.queued e)
+    offer-in Queue e C o a b = none
+    offer-in Function e A o a b = absurd (false≢true o)
+    offer-in Function e B o a b = mapped_in (first_map row) (v offer_a) (a refl) (λ d r. by_function k d h e r)
+    offer-in Function e C o a b = none
+    offer-in Fork e A o a b = absurd (false≢true o)
+    offer-in Fork e B o a b = when-in (v take_c) (mapped (first_map row) (v offer_a)) (mapped_in (first_map row) (v offer_a) (a refl) (λ d r. by_fork_b k d h e r))
+    offer-in Fork e C o a b = when-in (v take_b) (mapped (second_map row) (v offer_a)) (mapped_in (second_map row) (v offer_a) (a refl) (λ d r. by_fork_c k d h e r))
+    offer-in Join e A o a b = absurd (false≢true o)
+    offer-in Join e B o a b = absurd (false≢true o)
+    offer-in Join e C o a b = join-in e (v offer_a) (v offer_b) (a refl) (b refl)
+    offer-in Switch e A o a b = absurd (false≢true o)
+    offer-in Switch e B o a b = switch-b e (v offer_a) (a refl)
+    offer-in Switch e C o a b = switch-c e (v offer_a) (a refl)
+    offer-in Merge e A o a b = absurd (false≢true o)
+    offer-in Merge e B o a b = absurd (false≢true o)
+    offer-in Merge e C o a b = merge_in e (picks_b (get_or s 0 0) choice (v offer_a) (v offer_b)) (v offer_a) (v offer_b) (a refl) (b refl)

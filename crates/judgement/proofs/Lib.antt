@@ -1,3 +1,3 @@
+pub mod Weighings
 pub mod Judged
-pub mod Entry
-pub mod Bytes
+pub mod Laid

@@ -1,320 +1,203 @@
 // The verdict on a proposal for a fabric that was read: flows that are left, the weights and the constant.
 #![tactic(auto)]
 
-ghost use Rattle.std.specs.Prelude.{◌≡◌, ◌+◌, ◌*◌, ◌%◌, ◌≤◌, ◌<◌, ◌^◌, cond, not, ◌||◌, ◌++◌, eqb, ltb, length, get_or, drop, pos, nat_abs};
-ghost use Rattle.std.specs.Int.{w64};
-ghost use Rattle.std.proofs.Common.{of_z};
-ghost use Rattle.digits.specs.UpTo.{up_to};
-ghost use Rattle.integers.specs.Sign.{above_zero};
+ghost use Rattle.std.specs.Prelude.{◌≡◌, ◌+◌, ◌*◌, ◌/◌, ◌%◌, ◌≤◌, ◌<◌, ◌^◌, IfOk, not, ◌||◌, eqb, ltb, length, get_or, pos, nat_abs};
 ghost use Rattle.integers.specs.Sum.{sum_to};
 ghost use Rattle.integers.specs.Tables.{Near, Summed};
-ghost use Rattle.refusals.specs.Room.{room_for};
-ghost use Rattle.refusals.specs.declared.Verdict.TheVariants.{Accepted, Refused};
-ghost use Rattle.record.specs.Table.{row};
-ghost use Rattle.record.specs.Sizes.{row_size};
-ghost use Rattle.component.specs.Row.{fill_colour};
-ghost use Rattle.component.specs.Limits.{most_components, most_entries, most_flows};
-ghost use Rattle.netlist.specs.Netlist.{netlist_of};
-ghost use Rattle.netlist.specs.Accepted.{AcceptedNetlist};
-ghost use Rattle.reach.specs.Known.{Known};
-ghost use Rattle.flows.specs.Verdict.{judged, judged_within, constant_by, table_by, byte_of, weight_byte};
+ghost use Rattle.component.specs.Limits.{most_entries};
+ghost use Rattle.netlist.specs.View.{facts_of};
+ghost use Rattle.flows.specs.Flows.{constant};
 ghost use Rattle.flows.specs.Terms.{most_terms};
-ghost use Rattle.headroom.specs.Headroom.{owed_of, owed};
-ghost use Rattle.judgement.specs.Judged.{share_of, sums_verdict, or_zero, Weighed, weight_by, bytes_where, bytes_unasked, laid};
+ghost use Rattle.flows.specs.Verdict.{giving, judged, judged_within};
+ghost use Rattle.judgement.specs.Judged.{share_of, sums_verdict, Weighed, weighing_in, weighing_of, written_by};
 
-use component::{MOST_ENTRIES, MOST_FLOWS};
-use digits::wide;
-use netlist::Size;
-use refusals::{Refusal, Verdict};
+pub mod entry;
+
+use component::{Kind, MOST_ENTRIES, MOST_FLOWS};
+pub use entry::Entry;
+use netlist::Netlist;
+use refusals::{Refusal, room_for};
+use spread::ColouredNetlist;
 use sums::MOST_TERMS;
 
 // One component's share of the constant.
-fn share(w: &[i64; MOST_ENTRIES], table: &[u8], q: usize) -> i64
-    requires in_table { (q < most_components) × (row_size * q + row_size ≤ length table.now) × (fill_colour (row table.now q) < 8) }
-    requires weights_near { Near most_entries (2 ^ 40) w.now }
-    ensures value { result ≡ share_of table.now w.now q }
+fn share(weights: &[i64; MOST_ENTRIES], netlist: &Netlist, q: usize) -> i64
+    requires component { q < netlist.now.size.components }
+    requires weights_near { Near most_entries (2 ^ 40) weights.now }
+    ensures value { result ≡ share_of netlist.now.table.bytes.now weights.now q }
     ensures near { nat_abs result ≤ 2 ^ 48 }
 {
-    if component::kind(table, q) != 2 {
-        return 0;
+    let table = netlist.table;
+    if let Kind::Queue = table.kind(q) {
+        return weights[8 * q + table.fill_colour(q) as usize] * table.filling(q) as i64;
     }
-    let filling = wide(component::filling(table, q));
-    let colour = wide(component::fill_colour(table, q));
-    w[8 * q + colour] * (filling as i64)
+    0
 }
 
 // The constant K.
-fn constant_of(w: &[i64; MOST_ENTRIES], table: &[u8], size: Size) -> i64
-    requires accepted_netlist { AcceptedNetlist (netlist_of size table.now) }
-    requires weights_near { Near most_entries (2 ^ 40) w.now }
-    ensures { result ≡ sum_to size.components (share_of table.now w.now) }
+fn constant_of(weights: &[i64; MOST_ENTRIES], netlist: &Netlist) -> i64
+    requires weights_near { Near most_entries (2 ^ 40) weights.now }
+    ensures { result ≡ sum_to netlist.now.size.components (share_of netlist.now.table.bytes.now weights.now) }
 {
-    let mut k: i64 = 0;
-    for q in 0..size.components {
-        k += share(w, table, q);
+    let mut constant = 0;
+    for q in 0..netlist.size.components {
+        constant += share(weights, netlist, q);
     }
-    k
-}
-
-// A verdict on a proposal, and the constant; 0 where it is refused.
-#[derive(Clone, Copy)]
-pub struct Judgement {
-    pub verdict: Verdict,
-    pub constant: i64,
-}
-
-pub fn refused(r: Refusal) -> Judgement
-    ensures { (result.verdict ≡ Refused r) × (result.constant ≡ pos 0) }
-{
-    Judgement {
-        verdict: Verdict::Refused(r),
-        constant: 0,
-    }
+    constant
 }
 
 // 13 and 14 from the sums of all terms, or the constant.
 fn judge_sums(
-    s: &[i64; MOST_FLOWS],
-    w: &[i64; MOST_ENTRIES],
-    table: &[u8],
-    size: Size,
-    sets: &[u8],
-) -> Judgement
-    requires accepted_netlist { AcceptedNetlist (netlist_of size table.now) }
-    requires known { Known (netlist_of size table.now) sets.now }
-    requires sums { (length s.now ≡ most_flows) × Near most_entries (2 ^ 40) w.now }
-    ensures { (result.verdict ≡ sums_verdict (netlist_of size table.now) s.now w.now)
-        × (result.constant ≡ or_zero (sums_verdict (netlist_of size table.now) s.now w.now) (sum_to size.components (share_of table.now w.now))) }
+    sums: &[i64; MOST_FLOWS],
+    weights: &[i64; MOST_ENTRIES],
+    coloured: &ColouredNetlist,
+) -> Result<i64, Refusal>
+    requires weights_near { Near most_entries (2 ^ 40) weights.now }
+    ensures { result ≡ giving (sums_verdict (facts_of coloured.now.netlist) sums.now weights.now) (sum_to coloured.now.netlist.size.components (share_of coloured.now.netlist.table.bytes.now weights.now)) }
 {
-    let left = leftover::flow_left(s, table, size, sets);
-    if left < 8 * size.channels {
-        return refused(Refusal::FlowLeft(left));
+    if let Some(flow) = leftover::flow_left(sums, coloured) {
+        return Err(Refusal::FlowLeft(flow));
     }
-    let some = leftover::lowest(w, 8 * size.components);
-    if some == 8 * size.components {
-        return refused(Refusal::NoWeight);
+    if leftover::lowest(weights, 8 * coloured.netlist.size.components).is_none() {
+        return Err(Refusal::NoWeight);
     }
-    let k = constant_of(w, table, size);
-    Judgement {
-        verdict: Verdict::Accepted,
-        constant: k,
-    }
+    Ok(constant_of(weights, &coloured.netlist))
 }
 
 // 11 proposal length no multiple of 4, or over 16,384.
 fn bad_length(n: usize) -> bool
     ensures { result ≡ (not (eqb (n % 4) 0) || ltb (4 * most_terms) n) }
 {
-    (n % 4 != 0) | (4 * MOST_TERMS < n)
+    n % 4 != 0 || 4 * MOST_TERMS < n
 }
 
-// The verdict on a proposal, and its weights in memory that comes in as zeros.
+// The constant of a proposal, and its weights in memory that comes in as zeros.
 fn weigh(
-    table: &[u8],
-    size: Size,
-    sets: &[u8],
+    coloured: &ColouredNetlist,
     proposal: &[u8],
-    w: &mut [i64; MOST_ENTRIES],
-) -> Judgement
-    requires accepted_netlist { AcceptedNetlist (netlist_of size table.now) }
-    requires known { Known (netlist_of size table.now) sets.now }
-    requires weights_empty { Summed most_entries (λ u. pos 0) w.old }
-    ensures verdict { (result.verdict ≡ judged (netlist_of size table.now) proposal.now)
-        × (result.constant ≡ constant_by (judged (netlist_of size table.now) proposal.now) (netlist_of size table.now) proposal.now) }
-    ensures weights { judged (netlist_of size table.now) proposal.now ≡ Accepted → Weighed (netlist_of size table.now) proposal.now w.new }
+    weights: &mut [i64; MOST_ENTRIES],
+) -> Result<i64, Refusal>
+    requires weights_empty { Summed most_entries (λ u. pos 0) weights.old }
+    ensures constant { result ≡ giving (judged (facts_of coloured.now.netlist) proposal.now) (constant (facts_of coloured.now.netlist) proposal.now) }
+    ensures weights { IfOk result (λ k. Weighed (facts_of coloured.now.netlist) proposal.now weights.new) }
 {
     if bad_length(proposal.len()) {
-        return refused(Refusal::ProposalLength);
+        return Err(Refusal::ProposalLength);
     }
-    let mut s = [0i64; MOST_FLOWS];
-    let named = sums::add_terms(&mut s, w, table, size, proposal);
-    match named {
-        Verdict::Refused(r) => refused(r),
-        Verdict::Accepted => judge_sums(&s, w, table, size, sets),
-    }
+    let mut flow_sums = [0i64; MOST_FLOWS];
+    sums::add_terms(&mut flow_sums, weights, &coloured.netlist, proposal)?;
+    judge_sums(&flow_sums, weights, coloured)
 }
 
-// A judgement with room for so many entries, where it needs so many.
-fn with_room(j: Judgement, space: usize, need: usize) -> Judgement
-    ensures { (result.verdict ≡ room_for j.verdict space need) × (result.constant ≡ or_zero (room_for j.verdict space need) j.constant) }
+/// Writes entries at the front of lent memory.
+pub fn write_entries<E: Entry>(out: &mut [E], entries: &[i64])
+    requires { E.WIDTH * length entries.now ≤ length out.old }
+    ensures { out.new ≡ E.filled (length entries.now) (λ u. get_or entries.now u (pos 0)) out.old }
 {
-    let found = j.verdict;
-    let v = refusals::room_for(found, space, need);
-    match v {
-        Verdict::Accepted => j,
-        Verdict::Refused(r) => refused(r),
+    for u in 0..entries.len() {
+        E::write(out, u, entries[u]);
     }
 }
 
-// The judgement with room for as many entries as a lent table has; the weights go into it. The sets that are lent are the fabric's, or no bytes where they are not
-// worked out yet.
-pub fn judge(
-    table: &[u8],
-    size: Size,
-    sets: &[u8],
+/// Makes the first `n` entries of lent memory 0.
+pub fn clear<E: Entry>(out: &mut [E], n: usize)
+    requires { E.WIDTH * n ≤ length out.old }
+    ensures { out.new ≡ E.filled n (λ u. pos 0) out.old }
+{
+    out[..E::WIDTH * n].fill(E::ZERO);
+}
+
+// The first n weights into lent memory.
+fn write_weights<E: Entry>(out: &mut [E], weights: &[i64; MOST_ENTRIES], n: usize)
+    requires { (n ≤ most_entries) × (E.WIDTH * n ≤ length out.old) }
+    ensures { out.new ≡ E.filled n (λ u. get_or weights.now u (pos 0)) out.old }
+{
+    for u in 0..n {
+        E::write(out, u, weights[u]);
+    }
+}
+
+/// The constant K of a proposal, and its weights into lent memory; refused with 11 to 14, and with 23 if the memory is too short for them. The weights stand in
+/// the frame of the functions below alone, and no frame that reads a file holds them.
+#[inline(never)]
+pub fn judge<E: Entry>(
+    coloured: &ColouredNetlist,
     proposal: &[u8],
-    weights: &mut [i64],
-) -> Judgement
-    requires accepted_netlist { AcceptedNetlist (netlist_of size table.now) }
-    requires known { Known (netlist_of size table.now) sets.now }
-    ensures { (result.verdict ≡ judged_within (netlist_of size table.now) proposal.now (length weights.old))
-        × (result.constant ≡ constant_by (judged_within (netlist_of size table.now) proposal.now (length weights.old)) (netlist_of size table.now) proposal.now)
-        × (weights.new ≡ table_by (judged_within (netlist_of size table.now) proposal.now (length weights.old)) (netlist_of size table.now) proposal.now weights.old) }
+    out: &mut [E],
+) -> Result<i64, Refusal>
+    ensures constant { result ≡ giving (judged_within (facts_of coloured.now.netlist) proposal.now (length out.old / E.WIDTH)) (constant (facts_of coloured.now.netlist) proposal.now) }
+    ensures weights { out.new ≡ written_by E.filled (judged_within (facts_of coloured.now.netlist) proposal.now (length out.old / E.WIDTH)) (facts_of coloured.now.netlist) proposal.now out.old }
 {
-    let mut w = [0i64; MOST_ENTRIES];
-    let j = weigh(table, size, sets, proposal, &mut w);
-    let n = 8 * size.components;
-    let judged = with_room(j, weights.len(), n);
-    let found = judged.verdict;
-    match found {
-        Verdict::Refused(_r) => judged,
-        Verdict::Accepted => {
-            write_entries(&mut *weights, &w, n);
-            judged
-        }
-    }
+    let mut weights = [0i64; MOST_ENTRIES];
+    let constant = weigh(coloured, proposal, &mut weights)?;
+    let entries = 8 * coloured.netlist.size.components;
+    room_for(out.len() / E::WIDTH, entries)?;
+    write_weights(out, &weights, entries);
+    Ok(constant)
 }
 
-// A judgement; and of one entry, how far its weight is above 0 and, where it is, what the weights below 0 come to.
-#[derive(Clone, Copy)]
+/// The same with room for so many entries, and nothing is written.
+#[inline(never)]
+pub fn judge_answer(
+    coloured: &ColouredNetlist,
+    proposal: &[u8],
+    space: usize,
+) -> Result<i64, Refusal>
+    ensures { result ≡ giving (judged_within (facts_of coloured.now.netlist) proposal.now space) (constant (facts_of coloured.now.netlist) proposal.now) }
+{
+    let mut weights = [0i64; MOST_ENTRIES];
+    let constant = weigh(coloured, proposal, &mut weights)?;
+    room_for(space, 8 * coloured.netlist.size.components)?;
+    Ok(constant)
+}
+
+/// What an accepted proposal says of one entry: its constant, how far the entry's weight is above 0, and where it is above 0 what the weights below 0 come to with
+/// every queue full.
+#[derive(Clone, Copy, Debug, PartialEq, Eq)]
 pub struct Weighing {
-    pub judgement: Judgement,
+    pub constant: i64,
     pub weight: usize,
     pub owed: usize,
 }
 
-fn unasked(j: Judgement) -> Weighing
-    ensures { (result.judgement.verdict ≡ j.verdict) × (result.judgement.constant ≡ j.constant) × (result.weight ≡ 0) × (result.owed ≡ 0) }
-{
-    Weighing {
-        judgement: j,
-        weight: 0,
-        owed: 0,
-    }
-}
-
-fn asked(j: Judgement, w: &[i64; MOST_ENTRIES], table: &[u8], size: Size, u: usize) -> Weighing
-    requires accepted_netlist { AcceptedNetlist (netlist_of size table.now) }
-    requires weights_near { Near most_entries (2 ^ 40) w.now × (u < most_entries) }
-    ensures answer { (result.judgement.verdict ≡ j.verdict) × (result.judgement.constant ≡ j.constant)
-        × (result.weight ≡ above_zero (get_or w.now u (pos 0)))
-        × (result.owed ≡ cond (eqb result.weight 0) 0 (owed_of (netlist_of size table.now) (λ q d. get_or w.now (8 * q + d) (pos 0)))) }
+fn asked(constant: i64, weights: &[i64; MOST_ENTRIES], netlist: &Netlist, u: usize) -> Weighing
+    requires weights_near { Near most_entries (2 ^ 40) weights.now }
+    ensures value { result ≡ weighing_in constant (facts_of netlist.now) weights.now u }
     ensures near { result.owed ≤ 2 ^ 58 }
 {
-    let k = headroom::above_zero(w[u]);
-    if k == 0 {
-        return unasked(j);
+    if 8 * netlist.size.components <= u {
+        return Weighing {
+            constant,
+            weight: 0,
+            owed: 0,
+        };
+    }
+    let weight = headroom::above_zero(weights[u]);
+    if weight == 0 {
+        return Weighing {
+            constant,
+            weight: 0,
+            owed: 0,
+        };
     }
     Weighing {
-        judgement: j,
-        weight: k,
-        owed: headroom::owed_by_all(w, table, size),
+        constant,
+        weight,
+        owed: headroom::owed_by_all(weights, netlist),
     }
 }
 
-// The judgement with room for `space` entries. Entry u is asked for; if there is none, the weights go into lent bytes instead, 8 for each,
-// lowest first, where those are long enough. So the weights stand in this frame alone, and no frame that reads a file holds them. The sets are lent as to `judge`.
+/// The constant of a proposal, and what it says of entry `u`; refused with 11 to 14.
+#[inline(never)]
 pub fn judge_entry(
-    table: &[u8],
-    size: Size,
-    sets: &[u8],
+    coloured: &ColouredNetlist,
     proposal: &[u8],
-    space: usize,
-    out: &mut [u8],
     u: usize,
-) -> Weighing
-    requires accepted_netlist { AcceptedNetlist (netlist_of size table.now) }
-    requires known { Known (netlist_of size table.now) sets.now }
-    ensures answer { (result.judgement.verdict ≡ judged_within (netlist_of size table.now) proposal.now space)
-        × (result.judgement.constant ≡ constant_by (judged_within (netlist_of size table.now) proposal.now space) (netlist_of size table.now) proposal.now)
-        × (out.new ≡ bytes_unasked u (judged_within (netlist_of size table.now) proposal.now space) (netlist_of size table.now) proposal.now out.old)
-        × (result.weight ≡ weight_by (judged_within (netlist_of size table.now) proposal.now space) (netlist_of size table.now) proposal.now u)
-        × (result.owed ≡ cond (eqb result.weight 0) 0 (owed (netlist_of size table.now) proposal.now)) }
-    ensures near { result.owed ≤ 2 ^ 58 }
+) -> Result<Weighing, Refusal>
+    ensures value { result ≡ giving (judged (facts_of coloured.now.netlist) proposal.now) (weighing_of (facts_of coloured.now.netlist) proposal.now u) }
+    ensures near { IfOk result (λ weighing. weighing.owed ≤ 2 ^ 58) }
 {
-    let mut w = [0i64; MOST_ENTRIES];
-    let j = weigh(table, size, sets, proposal, &mut w);
-    let n = 8 * size.components;
-    let judged = with_room(j, space, n);
-    let found = judged.verdict;
-    match found {
-        Verdict::Refused(_r) => unasked(judged),
-        Verdict::Accepted => {
-            if u < n {
-                return asked(judged, &w, table, size, u);
-            }
-            if out.len() < 8 * n {
-                return unasked(judged);
-            }
-            write_bytes(&mut *out, &w, n);
-            unasked(judged)
-        }
-    }
-}
-
-// The same, and no entry is asked for.
-pub fn judge_bytes(
-    table: &[u8],
-    size: Size,
-    sets: &[u8],
-    proposal: &[u8],
-    space: usize,
-    out: &mut [u8],
-) -> Judgement
-    requires accepted_netlist { AcceptedNetlist (netlist_of size table.now) }
-    requires known { Known (netlist_of size table.now) sets.now }
-    ensures { (result.verdict ≡ judged_within (netlist_of size table.now) proposal.now space)
-        × (result.constant ≡ constant_by (judged_within (netlist_of size table.now) proposal.now space) (netlist_of size table.now) proposal.now)
-        × (out.new ≡ bytes_where (judged_within (netlist_of size table.now) proposal.now space) (netlist_of size table.now) proposal.now out.old) }
-{
-    judge_entry(table, size, sets, proposal, space, &mut *out, MOST_ENTRIES).judgement
-}
-
-// The first n entries into a lent table.
-fn write_entries(out: &mut [i64], w: &[i64; MOST_ENTRIES], n: usize)
-    requires { (n ≤ most_entries) × (n ≤ length out.old) }
-    ensures { out.new ≡ up_to n (λ u. get_or w.now u (pos 0)) ++ drop n out.old }
-{
-    for u in 0..n {
-        out[u] = w[u];
-    }
-}
-
-// The bits of a signed number, in two's complement.
-fn bits_of(v: i64) -> u64
-    ensures { result ≡ of_z w64 v }
-{
-    if 0 <= v {
-        v as u64
-    } else {
-        18446744073709551615 - (-1 - v) as u64
-    }
-}
-
-// Byte i of a signed number, lowest first.
-fn byte_of(v: i64, i: usize) -> u8
-    requires { i < 8 }
-    ensures { result ≡ byte_of v i }
-{
-    ((bits_of(v) >> (8 * i)) % 256) as u8
-}
-
-// Entry u as 8 bytes, lowest first.
-pub fn write_entry(out: &mut [u8], u: usize, v: i64)
-    requires { (u < most_entries) × (8 * u + 8 ≤ length out.old) }
-    ensures { out.new ≡ laid out.old u v }
-{
-    for i in 0..8 {
-        out[8 * u + i] = byte_of(v, i);
-    }
-}
-
-// The first n weights as bytes, 8 for each, lowest first.
-fn write_bytes(out: &mut [u8], w: &[i64; MOST_ENTRIES], n: usize)
-    requires { (n ≤ most_entries) × (8 * n ≤ length out.old) }
-    ensures { out.new ≡ up_to (8 * n) (weight_byte (λ u. get_or w.now u (pos 0))) ++ drop (8 * n) out.old }
-{
-    for u in 0..n {
-        write_entry(&mut *out, u, w[u]);
-    }
+    let mut weights = [0i64; MOST_ENTRIES];
+    let constant = weigh(coloured, proposal, &mut weights)?;
+    Ok(asked(constant, &weights, &coloured.netlist, u))
 }

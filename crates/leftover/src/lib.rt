@@ -1,63 +1,56 @@
 // The search for a flow that is left: in a table of sums, inside the colour sets.
 #![tactic(auto)]
 
-ghost use Rattle.std.specs.Prelude.{◌≡◌, ◌*◌, ◌≤◌, length};
-ghost use Rattle.digits.specs.Least.{least};
+ghost use Rattle.std.specs.Prelude.{◌≡◌, ◌*◌, ◌≤◌, not, length};
+ghost use Rattle.integers.specs.Sum.{is_zero};
+ghost use Rattle.search.specs.First.{first};
 ghost use Rattle.component.specs.Limits.{most_flows};
-ghost use Rattle.netlist.specs.Netlist.{netlist_of};
-ghost use Rattle.netlist.specs.Accepted.{AcceptedNetlist};
-ghost use Rattle.reach.specs.Known.{Known};
+ghost use Rattle.netlist.specs.View.{facts_of};
 ghost use Rattle.leftover.specs.Leftover.{not_zero, Zeros, left_in, left_inside};
 
 use component::MOST_FLOWS;
-use digits::wide;
-use netlist::Size;
-use spread::SETS_SIZE;
+use spread::ColouredNetlist;
 
-// The lowest of the first n entries that is not 0, or n.
-pub fn lowest(s: &[i64], n: usize) -> usize
-    requires { n ≤ length s.now }
-    ensures { result ≡ least (not_zero s.now) n }
+fn not_zero(entry: i64) -> bool
+    ensures { result ≡ not (is_zero entry) }
 {
-    for v in 0..n {
-        if s[v] != 0 {
-            return v;
-        }
-    }
-    n
+    entry != 0
 }
 
-// The lowest of the first n flows that is left inside lent sets, or n. Below flow `from` none is left.
-fn lowest_in(s: &[i64; MOST_FLOWS], sets: &[u8], from: usize, n: usize) -> usize
-    requires { (from ≤ n) × (n ≤ most_flows) × (n ≤ 8 * length sets.now) × Zeros s.now from }
-    ensures { result ≡ least (left_in s.now sets.now) n }
+/// The lowest of the first `n` entries that is not 0.
+pub fn lowest(entries: &[i64], n: usize) -> Option<usize>
+    requires { n ≤ length entries.now }
+    ensures { result ≡ first (not_zero entries.now) n }
 {
-    let mut v = from;
-    while v < n {
-        if s[v] != 0 {
-            if component::has_colour(wide(sets[v / 8]), v % 8) {
-                return v;
-            }
-        }
-        v += 1;
-    }
-    n
+    search::first(n, |v| not_zero(entries[v]))
 }
 
-// The lowest flow that is left inside the sets, or 8M. The sets are looked at only where some flow is left, and worked out here if they are not lent.
-pub fn flow_left(s: &[i64; MOST_FLOWS], table: &[u8], size: Size, sets: &[u8]) -> usize
-    requires { AcceptedNetlist (netlist_of size table.now) × Known (netlist_of size table.now) sets.now × (length s.now ≡ most_flows) }
-    ensures { result ≡ least (left_inside (netlist_of size table.now) s.now) (8 * size.channels) }
+// The lowest of the first n flows that is left inside sets. Below flow `from` none is left.
+fn lowest_in(sums: &[i64; MOST_FLOWS], sets: &[u8], from: usize, n: usize) -> Option<usize>
+    requires flows { (from ≤ n) × (n ≤ most_flows) × (n ≤ 8 * length sets.now) }
+    requires zeros { Zeros sums.now from }
+    ensures { result ≡ first (left_in sums.now sets.now) n }
 {
-    let n = 8 * size.channels;
-    let first = lowest(s, n);
-    if first == n {
-        return n;
+    for v in from..n {
+        if not_zero(sums[v]) && component::has_colour(sets[v / 8] as usize, v % 8) {
+            return Some(v);
+        }
     }
-    if sets.len() == 0 {
-        let mut own = [0u8; SETS_SIZE];
-        spread::work_out(table, size, &mut own);
-        return lowest_in(s, &own, first, n);
+    None
+}
+
+/// The lowest flow that is left inside the sets, as 8 times its channel plus its colour. The sets are looked at only where some flow is left, and worked out here
+/// if they are not yet.
+pub fn flow_left(sums: &[i64; MOST_FLOWS], coloured: &ColouredNetlist) -> Option<usize>
+    ensures { result ≡ first (left_inside (facts_of coloured.now.netlist) sums.now) (8 * coloured.now.netlist.size.channels) }
+{
+    let flows = 8 * coloured.netlist.size.channels;
+    let first = lowest(sums, flows)?;
+    match coloured.sets {
+        Some(sets) => lowest_in(sums, sets, first, flows),
+        None => {
+            let sets = spread::work_out(&coloured.netlist);
+            lowest_in(sums, &sets, first, flows)
+        }
     }
-    lowest_in(s, sets, first, n)
 }

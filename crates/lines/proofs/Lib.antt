@@ -1,5 +1,3 @@
 pub mod Decimal
-pub mod Put
-pub mod Signs
-pub mod Listing
+pub mod Lines
 pub mod Text

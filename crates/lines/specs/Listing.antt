@@ -1,21 +1,21 @@
 -- The text of the listing program, as a function of the contents of its two files.
-use Rattle.std.specs.Prelude.{cond, List, [], ◌∷◌, ◌++◌, ℕ, zero, suc, ◌*◌, ◌/◌, ◌%◌, take, ℤ, pos}
-use Rattle.integers.specs.Sum.{is_zero}
+use Rattle.std.specs.Prelude.{if◌then◌else◌, List, [], ◌∷◌, ◌++◌, ℕ, zero, suc, ◌*◌, ◌/◌, ◌%◌, take, ℤ, pos, Result, Ok, Err}
+use Rattle.std.specs.Fmt.{signed_decimal}
+use Rattle.std.specs.Ordering.{int_eq}
 use Rattle.refusals.specs.Refusals.{refusal_number, refusal_place}
-use Rattle.refusals.specs.declared.Verdict.{Verdict}
-use Rattle.refusals.specs.declared.Verdict.TheVariants.{Accepted, Refused}
+use Rattle.refusals.specs.declared.Refusal.{Refusal}
 use Rattle.reader.specs.File.{netlist_in}
 use Rattle.flows.specs.Flows.{entry}
+use Rattle.flows.specs.Verdict.{giving}
 use Rattle.checking.specs.Check.{check_verdict, check_constant}
-use Rattle.lines.specs.Decimal.{integer}
 
 -- a blank and a number
 abbrev pub text_field : ℤ → List ℕ
-text_field z = 32 ∷ integer z
+text_field z = 32 ∷ signed_decimal z
 
 -- `Q component colour weight` for weights other than 0; entry u is 8 times component plus colour
 unfoldable pub weight_line : ℕ → ℤ → List ℕ
-weight_line u w = cond (is_zero w) [] (81 ∷ [] ++ text_field (pos (u / 8)) ++ text_field (pos (u % 8)) ++ text_field w ++ 10 ∷ [])
+weight_line u w = if int_eq w (pos 0) then [] else (81 ∷ [] ++ text_field (pos (u / 8)) ++ text_field (pos (u % 8)) ++ text_field w ++ 10 ∷ [])
 
 -- the lines of the entries below n, ascending
 unfoldable pub weight_lines : ℕ → (ℕ → ℤ) → List ℕ
@@ -31,16 +31,16 @@ unfoldable pub refusal_line : ℕ → ℕ → List ℕ
 refusal_line number place = 78 ∷ 79 ∷ [] ++ text_field (pos number) ++ text_field (pos place) ++ 10 ∷ []
 
 -- the text for what check says
-unfoldable pub text_by : Verdict → ℕ → (ℕ → ℤ) → ℤ → List ℕ
-text_by Accepted n weights k = weight_lines n weights ++ sum_line k
-text_by (Refused r) n weights k = refusal_line (refusal_number r) (refusal_place r)
+unfoldable pub text_by : Result ℤ Refusal → ℕ → (ℕ → ℤ) → List ℕ
+text_by (Ok k) n weights = weight_lines n weights ++ sum_line k
+text_by (Err r) n weights = refusal_line (refusal_number r) (refusal_place r)
 
 -- a table of 1,024 entries has room for all weights of any fabric
 abbrev pub room : ℕ
 room = 1024
 
 unfoldable pub listing_of : List ℕ → List ℕ → List ℕ
-listing_of file p = text_by (check_verdict file p room) (8 * (netlist_in file).components) (entry (netlist_in file) p) (check_constant file p room)
+listing_of file p = text_by (giving (check_verdict file p room) (check_constant file p room)) (8 * (netlist_in file).components) (entry (netlist_in file) p)
 
 -- fabric.bin (first 1,669 bytes) and proof.bin (first 16,385)
 unfoldable pub listing : List ℕ → List ℕ → List ℕ

@@ -1,149 +1,114 @@
-// The text of the listing program, written into lent memory.
+// The text of the listing program.
 #![tactic(auto)]
 
-ghost use Rattle.std.specs.Prelude.{◌≡◌, [], ◌∷◌, ◌++◌, ◌+◌, ◌≤◌, ◌<◌, length, get_or, take, drop, pos, nat_abs};
-ghost use Rattle.lines.specs.Decimal.{decimal};
-ghost use Rattle.lines.specs.Listing.{text_field, weight_line, weight_lines, sum_line, refusal_line, listing};
-ghost use Rattle.lines.specs.Put.{Put};
+ghost use Rattle.std.specs.Prelude.{◌≡◌, ◌∷◌, ◌++◌, ◌+◌, ◌≤◌, ◌<◌, length, get_or, take, pos};
+ghost use Rattle.arrayvec.specs.ArrayString.{array_string_len};
+ghost use Rattle.lines.specs.Listing.{weight_line, weight_lines, sum_line, refusal_line, text_by, listing};
 
-use refusals::Verdict;
+use arrayvec::ArrayString;
+use itoa::{Buffer, Integer};
+use refusals::Refusal;
 
-// A number in decimal.
-fn put_number(out: &mut [u8], at: usize, n: u64) -> usize
-    requires { at + 20 ≤ length out.old }
-    ensures { Put 20 out.old at (decimal n) out.new result }
-{
-    if n < 10 {
-        out[at] = 48 + n as u8;
-        return at + 1;
-    }
-    let last = put_number(&mut *out, at, n / 10);
-    out[last] = 48 + (n % 10) as u8;
-    last + 1
-}
+/// Bytes that every listing fits in: at most 1,024 lines of at most 30 bytes, and the last line.
+pub const TEXT_SIZE: usize = 32768;
 
-// One byte.
-fn put_byte(out: &mut [u8], at: usize, b: u8) -> usize
-    requires { at < length out.old }
-    ensures { Put 1 out.old at (b ∷ []) out.new result }
-{
-    out[at] = b;
-    at + 1
-}
+// Entries of a table that has room for the weights of every fabric.
+const ENTRIES: usize = 1024;
+
+// The pieces are pushed and not displayed: the law of a Display says what is written, and not that writing succeeds.
 
 // A blank and a number.
-fn put_field(out: &mut [u8], at: usize, n: u64) -> usize
-    requires { at + 21 ≤ length out.old }
-    ensures { Put 21 out.old at (text_field (pos n)) out.new result }
+fn push_field<I: Integer>(text: &mut ArrayString<TEXT_SIZE>, number: I)
+    requires { array_string_len text.old + 1 + I.MAX_STR_LEN ≤ 32768 }
+    ensures bytes { text.new.bytes ≡ text.old.bytes ++ 32 ∷ I.text number }
+    ensures few { array_string_len text.new ≤ array_string_len text.old + 1 + I.MAX_STR_LEN }
 {
-    let a = put_byte(&mut *out, at, b' ');
-    put_number(&mut *out, a, n)
+    text.push(' ');
+    text.push_str(Buffer::new().format(number));
 }
 
-// A number without its sign.
-fn magnitude(w: i64) -> u64
-    ensures { result ≡ nat_abs w }
+// The line of an entry, which is 8 times component plus colour; none where its weight is 0.
+#[tactic(auto, unfolding(crate::specs::Listing::weight_line))]
+fn push_weight(text: &mut ArrayString<TEXT_SIZE>, entry: usize, weight: i64)
+    requires { (entry < 1024) × (array_string_len text.old + 66 ≤ 32768) }
+    ensures bytes { text.new.bytes ≡ text.old.bytes ++ weight_line entry weight }
+    ensures few { array_string_len text.new ≤ array_string_len text.old + 30 }
 {
-    if 0 <= w {
-        w as u64
-    } else {
-        (-1 - w) as u64 + 1
+    if weight == 0 {
+        return;
     }
-}
-
-// A blank and a signed number.
-fn put_signed(out: &mut [u8], at: usize, w: i64) -> usize
-    requires { at + 22 ≤ length out.old }
-    ensures { Put 22 out.old at (text_field w) out.new result }
-{
-    let m = magnitude(w);
-    if 0 <= w {
-        return put_field(&mut *out, at, m);
-    }
-    let a = put_byte(&mut *out, at, b' ');
-    let b = put_byte(&mut *out, a, b'-');
-    put_number(&mut *out, b, m)
-}
-
-// The line of entry u, if its weight is not 0.
-fn put_weight(out: &mut [u8], at: usize, u: usize, w: i64) -> usize
-    requires { at + 66 ≤ length out.old }
-    ensures { Put 66 out.old at (weight_line u w) out.new result }
-{
-    if w == 0 {
-        return at;
-    }
-    let a = put_byte(&mut *out, at, b'Q');
-    let b = put_field(&mut *out, a, (u / 8) as u64);
-    let c = put_field(&mut *out, b, (u % 8) as u64);
-    let d = put_signed(&mut *out, c, w);
-    put_byte(&mut *out, d, b'\n')
+    text.push('Q');
+    push_field(text, entry / 8);
+    push_field(text, entry % 8);
+    push_field(text, weight);
+    text.push('\n');
 }
 
 // The lines of all weights.
-fn put_weights(out: &mut [u8], weights: &[i64]) -> usize
-    requires { (length weights.now ≤ 1024) × (32768 ≤ length out.old) }
-    ensures { Put 30720 out.old 0 (weight_lines (length weights.now) (λ u. get_or weights.now u (pos 0))) out.new result }
+#[tactic(auto, unfolding(crate::specs::Listing::weight_lines))]
+fn push_weights(text: &mut ArrayString<TEXT_SIZE>, weights: &[i64; ENTRIES])
+    requires { array_string_len text.old ≡ 0 }
+    ensures bytes { text.new.bytes ≡ weight_lines (length weights.now) (λ u. get_or weights.now u (pos 0)) }
+    ensures few { array_string_len text.new ≤ 30720 }
 {
-    let mut at: usize = 0;
-    let mut u: usize = 0;
-    while u < weights.len() {
-        at = put_weight(&mut *out, at, u, weights[u]);
-        u += 1;
+    for (entry, &weight) in weights.iter().enumerate() {
+        push_weight(text, entry, weight);
     }
-    at
 }
 
 // The line of the constant.
-fn put_sum(out: &mut [u8], at: usize, k: i64) -> usize
-    requires { at + 26 ≤ length out.old }
-    ensures { Put 26 out.old at (sum_line k) out.new result }
+#[tactic(auto, unfolding(crate::specs::Listing::sum_line))]
+fn push_sum(text: &mut ArrayString<TEXT_SIZE>, constant: i64)
+    requires { array_string_len text.old + 26 ≤ 32768 }
+    ensures { text.new.bytes ≡ text.old.bytes ++ sum_line constant }
 {
-    let a = put_byte(&mut *out, at, b'S');
-    let b = put_byte(&mut *out, a, b'U');
-    let c = put_byte(&mut *out, b, b'M');
-    let d = put_signed(&mut *out, c, k);
-    put_byte(&mut *out, d, b'\n')
+    text.push_str("SUM");
+    push_field(text, constant);
+    text.push('\n');
 }
 
 // The line of a refusal.
-fn put_refusal(out: &mut [u8], number: u32, place: usize) -> usize
-    requires { 45 ≤ length out.old }
-    ensures { Put 45 out.old 0 (refusal_line number place) out.new result }
+#[tactic(auto, unfolding(crate::specs::Listing::refusal_line))]
+fn push_refusal(text: &mut ArrayString<TEXT_SIZE>, number: u32, place: usize)
+    requires { array_string_len text.old + 45 ≤ 32768 }
+    ensures { text.new.bytes ≡ text.old.bytes ++ refusal_line number place }
 {
-    let a = put_byte(&mut *out, 0, b'N');
-    let b = put_byte(&mut *out, a, b'O');
-    let c = put_field(&mut *out, b, number as u64);
-    let d = put_field(&mut *out, c, place as u64);
-    put_byte(&mut *out, d, b'\n')
+    text.push_str("NO");
+    push_field(text, number);
+    push_field(text, place);
+    text.push('\n');
 }
 
 // The first bytes of a file, at most so many.
 fn first(file: &[u8], most: usize) -> &[u8]
     ensures { result.now ≡ take most file.now }
 {
-    if file.len() < most {
-        return file;
-    }
-    &file[..most]
+    file.get(..most).unwrap_or(file)
 }
 
-// Writes the text for the contents of the two files, and says how long it is.
-pub fn write_listing(fabric: &[u8], proof: &[u8], text: &mut [u8]) -> usize
-    requires { 32768 ≤ length text.old }
-    ensures { (result ≡ length (listing fabric.now proof.now))
-        × (text.new ≡ listing fabric.now proof.now ++ drop result text.old) }
+// The text for what check leaves.
+#[tactic(auto, unfolding(crate::specs::Listing::text_by))]
+fn text_by(outcome: Result<i64, Refusal>, weights: &[i64; ENTRIES]) -> ArrayString<TEXT_SIZE>
+    ensures { result.bytes ≡ text_by outcome (length weights.now) (λ u. get_or weights.now u (pos 0)) }
 {
-    let mut weights = [0i64; 1024];
-    let j = checking::check(first(fabric, 1669), first(proof, 16385), &mut weights);
-    let v = j.verdict;
-    match v {
-        Verdict::Accepted => {
-            let at = put_weights(&mut *text, &weights);
-            put_sum(&mut *text, at, j.constant)
+    let mut text = ArrayString::new();
+    match outcome {
+        Ok(constant) => {
+            push_weights(&mut text, weights);
+            push_sum(&mut text, constant);
         }
-        Verdict::Refused(_r) => {
-            put_refusal(&mut *text, refusals::number_of(v), refusals::place_of(v))
-        }
+        Err(refusal) => push_refusal(&mut text, u32::from(refusal), refusal.place()),
     }
+    text
+}
+
+/// What the listing program prints: `Q component colour weight` for weights other than 0, ascending, a line each,
+/// then `SUM K`, or `NO number place`. It is for the contents of fabric.bin (first 1,669 bytes) and proof.bin (first 16,385);
+/// longer ones are cut.
+pub fn listing(fabric: &[u8], proof: &[u8]) -> ArrayString<TEXT_SIZE>
+    ensures { result.bytes ≡ listing fabric.now proof.now }
+{
+    let mut weights = [0; ENTRIES];
+    let outcome = checking::check(first(fabric, 1669), first(proof, 16385), &mut weights);
+    text_by(outcome, &weights)
 }

@@ -1,42 +1,31 @@
 // Reads fabric.bin and proof.bin of the current folder and prints the weights of the proposed sum and its constant, or why it is refused.
 #![tactic(auto)]
 
-ghost use Rattle.std.specs.Prelude.{◌≤◌, length};
+ghost use Rattle.std.specs.Prelude.{◌≡◌, IfSome, IfOk, take};
 
-use std::io::{Read, Write};
-use std::{fs, io};
+use arrayvec::ArrayVec;
+use std::fs;
+use std::io::{self, Read};
 
-// Reads until the end or until buf is full; nothing, where a read fails.
-fn read_start<R: Read>(file: &mut R, buf: &mut [u8]) -> usize
-    ensures { result ≤ length buf.new }
+// The first bytes that a reader gives, at most so many.
+fn first_bytes<R: Read + Drop, const MOST: usize>(reader: R) -> io::Result<ArrayVec<u8, MOST>>
+    ensures { IfSome (R.remaining reader) (λ given. IfOk result (λ bytes. bytes.items ≡ take MOST given)) }
 {
-    let mut done: usize = 0;
-    while done < buf.len() {
-        match file.read(&mut buf[done..]) {
-            Ok(0) => return done,
-            Ok(n) => done += n,
-            Err(_) => return 0,
-        }
-    }
-    done
+    let mut bytes = ArrayVec::new();
+    io::copy(&mut reader.take(MOST as u64), &mut bytes)?;
+    Ok(bytes)
 }
 
-// Reads the start of a file, as much as fits. A file that is missing, or that cannot be read, is empty.
-fn file_start(rt: &HostRuntime, path: &str, buf: &mut [u8]) -> usize
-    ensures { result ≤ length buf.new }
-{
+// The first bytes of a file. One that is missing, or that cannot be read, is empty.
+fn file_start<const MOST: usize>(rt: &HostRuntime, path: &str) -> ArrayVec<u8, MOST> {
     match fs::open(rt, path) {
-        Ok(mut file) => read_start(&mut file, &mut *buf),
-        Err(_) => 0,
+        Ok(file) => first_bytes(file).unwrap_or_default(),
+        Err(_) => ArrayVec::new(),
     }
 }
 
 fn main(rt: HostRuntime) -> io::Result<()> {
-    let mut fabric = [0u8; 1669];
-    let mut proof = [0u8; 16385];
-    let mut text = [0u8; 32768];
-    let f = file_start(&rt, "fabric.bin", &mut fabric);
-    let p = file_start(&rt, "proof.bin", &mut proof);
-    let n = lines::write_listing(&fabric[..f], &proof[..p], &mut text);
-    io::writer(&rt).write_all(&text[..n])
+    let fabric = file_start::<1669>(&rt, "fabric.bin");
+    let proof = file_start::<16385>(&rt, "proof.bin");
+    print!(rt; "{}", lines::listing(&fabric, &proof))
 }

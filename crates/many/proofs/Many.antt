@@ -1,119 +1,114 @@
--- What each way through `check_many` comes to. Assumes nothing.
-use mathlib.Core.Path.{◌≡◌, refl, ap, ap₂, sym, subst, ◌∙◌}
-use mathlib.Core.Bool.{Bool, true, false, cond}
-use mathlib.Core.List.{List, [], ◌∷◌}
-use Prim.Native.Nat.{ℕ, suc, ◌+◌, ◌*◌, ◌/◌, ◌≤◌, ◌<◌}
-use native.Mathlib.Nat.{mul_left_comm}
-use native.Mathlib.Omega.{arith}
-use lib.Dec.{ltb}
-use lib.ListN.{length, take}
-use lib.IntN.{ℤ}
-use borrow.Author.Tests.{lt-ltb, le-ltb}
-use Rattle.refusals.specs.Refusals.{test, first_refusal}
+-- What `check_many` comes to, and leaves in lent memory, by what reading comes to. Assumes nothing.
+use Rattle.std.proofs.Common.{◌≡◌, refl, sym, ap, ap₂, ◌∙◌, List, ℕ, ℤ, ◌*◌, ◌/◌, ◌≤◌, Bool, true, false, cond, ltb, length, Result, Ok, Err, arith}
+use borrow.Author.Tests.{ltb-false}
+use Rattle.refusals.specs.Refusals.{first_refusal}
+use Rattle.refusals.specs.Room.{room_for}
 use Rattle.refusals.specs.declared.Refusal.{Refusal}
 use Rattle.refusals.specs.declared.Refusal.TheVariants.{BadBlocks, ResultSpace}
-use Rattle.refusals.specs.declared.Verdict.{Verdict}
-use Rattle.refusals.specs.declared.Verdict.TheVariants.{Accepted, Refused}
-use Rattle.refusals.specs.Room.{room_for}
-use Rattle.refusals.proofs.Refusals.{cond-accepted}
-use Rattle.refusals.proofs.Room.{last-accepted}
-use Rattle.record.specs.Sizes.{row_size}
+use Rattle.refusals.proofs.Refusals.{and_then, refusal-append}
+use Rattle.record.specs.Table.{open_table}
 use Rattle.netlist.specs.Netlist.{Netlist, netlist_of}
 use Rattle.netlist.specs.declared.Size.{Size}
-use Rattle.reader.specs.File.{netlist_in}
-use Rattle.reader.specs.Reading.{reading}
-use Rattle.reader.specs.declared.Reading.TheVariants.{Rejected}
-use Rattle.reader.proofs.Opened.{rest-refused, Opened}
-use Rattle.blocks.specs.Blocks.{most_blocks, blocks, bad_blocks, each_block, Fills}
+use Rattle.reader.specs.File.{header_fields, size_in, netlist_in, file_tests}
+use Rattle.reader.specs.Reading.{read_as, reading}
+use Rattle.reader.proofs.Opened.{after, judged_after}
+use Rattle.blocks.specs.Blocks.{most_blocks, blocks, bad_blocks, blocks_found, each_block}
 use Rattle.blocks.proofs.Blocks.{filled}
-use Rattle.result.specs.Result.{result_size, block_result, result_bytes, over}
-use Rattle.result.proofs.Result.{size_is, length-result, length-bytes}
-use Rattle.results.proofs.Written.{each-length}
-use Rattle.many.specs.Many.{many_tests, many_verdict, over_by, table_after_many, bytes_after_many, found_verdict}
+use Rattle.result.specs.Result.{result_size, block_result, over}
+use Rattle.many.specs.Many.{many_tests, many_verdict, over_by, table_after_many, bytes_after_many, after_many}
+use Rattle.judgement.specs.Memory.{bytes_of}
+use Rattle.results.proofs.Written.{each-bytes}
 
--- ---- the number of blocks that was found
-pub found-many : (n size space : ℕ) → most_blocks < n → Refused BadBlocks ≡ found_verdict n size space
-unfolding found_verdict
-found-many n size space h = sym (ap (λ (b : Bool). cond b (Refused BadBlocks) (cond (ltb space (n * size)) (Refused ResultSpace) Accepted)) (lt-ltb most_blocks n h))
+-- ---- the tests of the blocks
+refused-by : (b : Bool) (n : ℕ) {r : Refusal} (rest : Result Unit Refusal) → ◌≡◌ {A = Result ℕ Refusal} (Err r) (cond b (Err BadBlocks) (Ok n)) → Err r ≡ cond b (Err BadBlocks) rest
+refused-by true n rest e = cc
+refused-by false n rest e = cc
 
-pub found-few : (n size space : ℕ) → n ≤ most_blocks → room_for Accepted space (n * size) ≡ found_verdict n size space
-unfolding found_verdict
-found-few n size space h = sym (ap (λ (b : Bool). cond b (Refused BadBlocks) (cond (ltb space (n * size)) (Refused ResultSpace) Accepted)) (le-ltb most_blocks n h))
+counted-by : (b : Bool) {n m : ℕ} → ◌≡◌ {A = Result ℕ Refusal} (Ok n) (cond b (Err BadBlocks) (Ok m)) → (b ≡ false) × (n ≡ m)
+counted-by true e = (cc, cc)
+counted-by false e = (refl, cc)
 
-module _ (f : Netlist) (p : List ℕ) {n : ℕ} (e : n ≡ cond (bad_blocks p) (suc most_blocks) (blocks p)) (space : ℕ) where
-  found-is : found_verdict n (result_size f) space ≡ first_refusal (many_tests f p space)
-  unfolding found_verdict
-  found-is = go (bad_blocks p) refl e
-    where
-      go : (b : Bool) → bad_blocks p ≡ b → n ≡ cond b (suc most_blocks) (blocks p)
-          → cond (ltb most_blocks n) (Refused BadBlocks) (cond (ltb space (n * result_size f)) (Refused ResultSpace) Accepted) ≡ cond b (Refused BadBlocks) (cond (ltb space (blocks p * result_size f)) (Refused ResultSpace) Accepted)
-      go true eb en = ap (λ (x : Bool). cond x (Refused BadBlocks) (cond (ltb space (n * result_size f)) (Refused ResultSpace) Accepted)) (lt-ltb most_blocks n (omega (arith, en)))
-      go false eb en =
-          ap (λ (x : Bool). cond x (Refused BadBlocks) (cond (ltb space (n * result_size f)) (Refused ResultSpace) Accepted)) (le-ltb most_blocks n (omega (arith, en, (filled p eb).few)))
-          ∙ ap (λ (k : ℕ). cond (ltb space (k * result_size f)) (Refused ResultSpace) Accepted) en
+accepted-by : (b c : Bool) → ◌≡◌ {A = Result Unit Refusal} (cond b (Err BadBlocks) (cond c (Err ResultSpace) (Ok tt))) (Ok tt) → (b ≡ false) × (c ≡ false)
+accepted-by true c e = (cc, cc)
+accepted-by false true e = (refl, cc)
+accepted-by false false e = (refl, refl)
 
-  -- where it is accepted, n blocks fill the file, and there is room for their results
-  module _ (ok : found_verdict n (result_size f) space ≡ Accepted) where
-    found-room : n * result_size f ≤ space
-    unfolding found_verdict
-    found-room = (last-accepted (test BadBlocks (ltb most_blocks n) ∷ []) space (n * result_size f) ok).1
+module _ (f : Netlist) (p : List ℕ) (space : ℕ) where
+  -- 33
+  pub blocks-refused : {r : Refusal} → Err r ≡ blocks_found p → Err r ≡ first_refusal (many_tests f p space)
+  blocks-refused e = refused-by (bad_blocks p) (blocks p) (room_for space (blocks p * result_size f)) e
 
-    found-good : bad_blocks p ≡ false
-    found-good = (cond-accepted BadBlocks (bad_blocks p) (cond (ltb space (blocks p * result_size f)) (Refused ResultSpace) Accepted) (sym found-is ∙ ok)).0
+  -- or so many blocks, and 23
+  pub blocks-counted : {n size : ℕ} → Ok n ≡ blocks_found p → size ≡ result_size f → room_for space (n * size) ≡ first_refusal (many_tests f p space)
+  blocks-counted {n} {size} e q =
+      let z = counted-by (bad_blocks p) e in
+      ap₂ (λ (a b : ℕ). room_for space (a * b)) z.1 q ∙ sym (ap (λ (b : Bool). cond b (Err BadBlocks) (room_for space (blocks p * result_size f))) z.0)
 
-    found-count : n ≡ blocks p
-    found-count = e ∙ ap (λ (b : Bool). cond b (suc most_blocks) (blocks p)) found-good
+  -- where all is accepted
+  pub blocks-accepted : first_refusal (many_tests f p space) ≡ Ok tt → (bad_blocks p ≡ false) × (blocks p * result_size f ≤ space)
+  blocks-accepted e =
+      let z = accepted-by (bad_blocks p) (ltb space (blocks p * result_size f)) e in
+      (z.0, ltb-false space (blocks p * result_size f) z.1)
 
-    found-filled : Fills p n
-    found-filled = subst (Fills p) (sym found-count) (filled p found-good)
+pub few-blocks : (p : List ℕ) {n : ℕ} → Ok n ≡ blocks_found p → n ≤ most_blocks
+few-blocks p e =
+    let z = counted-by (bad_blocks p) e in
+    omega (arith, z.1, (filled p z.0).few)
 
-module _ (file p : List ℕ) where
-  -- ---- the file is refused
-  module _ {r : Refusal} (e : reading file ≡ Rejected r) where
-    pub many-refused : (space : ℕ) → Refused r ≡ many_verdict file p space
-    unfolding many_verdict
-    many-refused space = rest-refused file (many_tests (netlist_in file) p space) e
+-- ---- the call
+pub many_outcome : (fabric file : List ℕ) (space : ℕ) → many_verdict fabric file space ≡ after (reading fabric) fabric (λ f. first_refusal (many_tests f file space))
+unfolding many_verdict
+many_outcome fabric file space = judged_after fabric (λ f. many_tests f file space)
 
-  -- ---- the file is read, n blocks were found, and v is what follows from that
-  module _ {s : Size} {rows ends order : List ℕ} (o : Opened file s rows ends order) {n : ℕ} (e : n ≡ cond (bad_blocks p) (suc most_blocks) (blocks p)) (space : ℕ) {v : Verdict}
-      (ev : v ≡ found_verdict n (3 + 8 * s.components) space) where
-    abbrev f : Netlist
-    f = netlist_of s (take (row_size * s.components) rows)
+-- what it leaves in lent memory
+abbrev pub left_many : {X : Type 0} → Result Size Refusal → ℕ → (List ℤ → List X) → List ℕ → List ℕ → List X → List X
+left_many (Ok s) width laid fabric file memory =
+    over_by (first_refusal (many_tests (netlist_of s (open_table fabric s.components)) file (length memory / width))) (laid (each_block (block_result (netlist_of s (open_table fabric s.components))) file (blocks file))) memory
+left_many (Err r) width laid fabric file memory = memory
 
-    sized : v ≡ found_verdict n (result_size f) space
-    sized = ev ∙ ap (λ (k : ℕ). found_verdict n k space) (sym (size_is s (take (row_size * s.components) rows)))
+read-many : {X : Type 0} (v : Result Unit Refusal) (s : Size) (width : ℕ) (laid : List ℤ → List X) (fabric file : List ℕ) (memory : List X)
+    → over_by (and_then v (first_refusal (many_tests (netlist_of s (open_table fabric s.components)) file (length memory / width)))) (laid (each_block (block_result (netlist_of s (open_table fabric s.components))) file (blocks file))) memory
+    ≡ left_many (read_as v s) width laid fabric file memory
+unfolding over_by
+read-many (Ok _) s width laid fabric file memory = refl
+read-many (Err r) s width laid fabric file memory = refl
 
-    pub many-found : v ≡ many_verdict file p space
-    unfolding many_verdict
-    many-found = sized ∙ found-is f p e space ∙ o.judged (λ g. many_tests g p space)
+pub many_memory : {X : Type 0} (width : ℕ) (laid : List ℤ → List X) (fabric file : List ℕ) (memory : List X) → after_many width laid fabric file memory ≡ left_many (reading fabric) width laid fabric file memory
+unfolding after_many many_verdict reading netlist_in
+many_memory width laid fabric file memory =
+    ap (λ (v : Result Unit Refusal). over_by v (laid (each_block (block_result (netlist_in fabric)) file (blocks file))) memory) (refusal-append (file_tests fabric) (many_tests (netlist_in fabric) file (length memory / width)))
+    ∙ read-many (first_refusal (file_tests fabric)) (size_in (header_fields fabric)) width laid fabric file memory
 
-    module _ (ok : v ≡ Accepted) where
-      pub many-count : n ≡ blocks p
-      many-count = found-count f p e space (sym sized ∙ ok)
+-- of a fabric that was read: what the tests of the blocks leave
+module _ {X : Type 0} (width : ℕ) (laid : List ℤ → List X) (fabric file : List ℕ) (memory : List X) {s : Size} {table : List ℕ} (e : Ok s ≡ reading fabric) (q : table ≡ open_table fabric s.components) where
+  abbrev written : Netlist → List X
+  written f = laid (each_block (block_result f) file (blocks file))
 
-      pub many-filled : Fills p n
-      many-filled = found-filled f p e space (sym sized ∙ ok)
+  abbrev outcome : Netlist → Result Unit Refusal
+  outcome f = first_refusal (many_tests f file (length memory / width))
 
-      pub many-entries : length (each_block (block_result f) p n) ≤ space
-      many-entries = omega (arith, found-room f p e space (sym sized ∙ ok), each-length (block_result f) (result_size f) (length-result f) p n)
+  by-outcome : {v : Result Unit Refusal} → v ≡ outcome (netlist_of s table) → over_by v (written (netlist_of s table)) memory ≡ after_many width laid fabric file memory
+  by-outcome ev =
+      ap (λ (v : Result Unit Refusal). over_by v (written (netlist_of s table)) memory) ev
+      ∙ ap (λ (t : List ℕ). over_by (outcome (netlist_of s t)) (written (netlist_of s t)) memory) q
+      ∙ ap (λ (r : Result Size Refusal). left_many r width laid fabric file memory) e
+      ∙ sym (many_memory width laid fabric file memory)
 
-      pub many-bytes : length (each_block (result_bytes f) p n) ≤ 8 * space
-      many-bytes = omega (arith, found-room f p e space (sym sized ∙ ok), each-length (result_bytes f) (8 * result_size f) (length-bytes f) p n, mul_left_comm n 8 (result_size f))
+  pub memory-kept : {r : Refusal} → Err r ≡ outcome (netlist_of s table) → memory ≡ after_many width laid fabric file memory
+  unfolding over_by
+  memory-kept er = by-outcome er
 
-  -- ---- what is written
-  pub table_kept : (t : List ℤ) {r : Refusal} → Refused r ≡ many_verdict file p (length t) → t ≡ table_after_many file p t
-  unfolding table_after_many over_by
-  table_kept t e = ap (λ (v : Verdict). over_by v (each_block (block_result (netlist_in file)) p (blocks p)) t) e
+  pub memory-written : Ok tt ≡ outcome (netlist_of s table) → over (written (netlist_of s table)) memory ≡ after_many width laid fabric file memory
+  unfolding over_by
+  memory-written ok = by-outcome ok
 
-  pub bytes-kept : (t : List ℕ) {r : Refusal} → Refused r ≡ many_verdict file p (length t / 8) → t ≡ bytes_after_many file p t
-  unfolding bytes_after_many over_by
-  bytes-kept t e = ap (λ (v : Verdict). over_by v (each_block (result_bytes (netlist_in file)) p (blocks p)) t) e
+-- ---- in a signed table, and in bytes
+pub table-after : (fabric file : List ℕ) (table : List ℤ) → after_many 1 (λ entries. entries) fabric file table ≡ table_after_many fabric file table
+unfolding after_many table_after_many
+table-after fabric file table =
+    let e : length table / 1 ≡ length table = omega arith in
+    ap (λ (n : ℕ). over_by (many_verdict fabric file n) (each_block (block_result (netlist_in fabric)) file (blocks file)) table) e
 
-  module _ {g : Netlist} {n : ℕ} (same : netlist_in file ≡ g) (count : n ≡ blocks p) where
-    pub table-written : (t : List ℤ) → Accepted ≡ many_verdict file p (length t) → over (each_block (block_result g) p n) t ≡ table_after_many file p t
-    unfolding table_after_many over_by
-    table-written t e = ap₂ (λ (h : Netlist) (k : ℕ). over (each_block (block_result h) p k) t) (sym same) count ∙ ap (λ (v : Verdict). over_by v (each_block (block_result (netlist_in file)) p (blocks p)) t) e
-
-    pub bytes-written : (t : List ℕ) → Accepted ≡ many_verdict file p (length t / 8) → over (each_block (result_bytes g) p n) t ≡ bytes_after_many file p t
-    unfolding bytes_after_many over_by
-    bytes-written t e = ap₂ (λ (h : Netlist) (k : ℕ). over (each_block (result_bytes h) p k) t) (sym same) count ∙ ap (λ (v : Verdict). over_by v (each_block (result_bytes (netlist_in file)) p (blocks p)) t) e
+pub bytes-after : (fabric file bytes : List ℕ) → after_many 8 bytes_of fabric file bytes ≡ bytes_after_many fabric file bytes
+unfolding after_many bytes_after_many
+bytes-after fabric file bytes = ap (λ (l : List ℕ). over_by (many_verdict fabric file (length bytes / 8)) l bytes) (each-bytes (netlist_in fabric) file (blocks file))

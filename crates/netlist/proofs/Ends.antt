@@ -7,7 +7,9 @@ use native.Mathlib.Omega.{arith}
 use lib.Dec.{eqb}
 use borrow.Author.Tests.{eqb-true, eq-eqb}
 use Rattle.digits.proofs.Bools.{and_both, both_true}
-use Rattle.component.specs.Kind.{Port, A, B, C, port_of, port_use, is_output, is_input}
+use Rattle.component.specs.declared.kinds.Port.{Port}
+use Rattle.component.specs.declared.kinds.Port.TheVariants.{A, B, C}
+use Rattle.component.specs.Kind.{port_of, port_use, is_output, is_input}
 use Rattle.component.specs.Row.{kind, port}
 use Rattle.wiring.specs.Ends.{end_port, on_side}
 use Rattle.wiring.specs.Signals.{is_offer, end_of}

@@ -1,2 +1,3 @@
 pub mod Netlist
 pub mod Accepted
+pub mod View

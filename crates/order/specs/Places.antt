@@ -1,9 +1,7 @@
 -- What holds of the places, the order and its count before and after each visit. It describes the code.
-use Rattle.std.specs.Prelude.{◌≡◌, List, true, false, ℕ, ◌+◌, ◌*◌, ◌<◌, ◌≤◌, length, get_or}
+use Rattle.std.specs.Prelude.{◌≡◌, List, Option, None, Some, true, false, ℕ, ◌+◌, ◌*◌, ◌<◌, ◌≤◌, length, get_or}
 use Rattle.order.specs.Graph.{dep, walks, has_circle, Sorted, most_signals}
 use Rattle.order.specs.Zeros.{zeros}
-use Rattle.order.specs.declared.Walk.{Walk}
-use Rattle.order.specs.declared.Walk.TheVariants.{Circle, Extended}
 
 -- P has 0 for a signal that is not in the order, else 1 + its place; the order is the first c entries of O.
 -- Each signal in the order stands after all that it depends on.
@@ -34,11 +32,11 @@ pub record GrownOrder (D : List ℕ) (s : ℕ) (P₀ P O : List ℕ) (c : ℕ) :
   pub last : get_or P s 0 ≡ c
 
 -- what a visit of s at the given depth answers
-abbrev pub IsVisited : List ℕ → ℕ → ℕ → List ℕ → List ℕ → List ℕ → Walk → Type 0
-IsVisited D s depth P₀ P O Circle = walks (dep D) (length P₀) depth s ≡ true
-IsVisited D s depth P₀ P O (Extended c) = GrownOrder D s P₀ P O c
+abbrev pub IsVisited : List ℕ → ℕ → ℕ → List ℕ → List ℕ → List ℕ → Option ℕ → Type 0
+IsVisited D s depth P₀ P O None = walks (dep D) (length P₀) depth s ≡ true
+IsVisited D s depth P₀ P O (Some c) = GrownOrder D s P₀ P O c
 
 -- what the visit of all signals answers
-abbrev pub IsOrdered : List ℕ → ℕ → List ℕ → Walk → Type 0
-IsOrdered D n O Circle = has_circle (dep D) n ≡ true
-IsOrdered D n O (Extended c) = (has_circle (dep D) n ≡ false) × Sorted (dep D) n O
+abbrev pub IsOrdered : List ℕ → ℕ → List ℕ → Option ℕ → Type 0
+IsOrdered D n O None = has_circle (dep D) n ≡ true
+IsOrdered D n O (Some c) = (has_circle (dep D) n ≡ false) × Sorted (dep D) n O

@@ -2,25 +2,12 @@
 // The graph is a lent table: signal s depends on the entries 4s to 4s + 3 that are below n; any other entry means none.
 #![tactic(auto)]
 
-ghost use Rattle.std.specs.Prelude.{◌≡◌, ◌+◌, ◌*◌, ◌≤◌, ◌<◌, length, set};
+ghost use Rattle.std.specs.Prelude.{◌≡◌, ◌+◌, ◌*◌, ◌≤◌, ◌<◌, length, set, is_err};
 ghost use Rattle.order.specs.Graph.{dep, OrderOf, most_signals};
 ghost use Rattle.order.specs.Places.{SoundPlaces, Fresh, IsVisited, IsOrdered};
 
 // So many signals there are at most, two a channel.
 pub const MOST_SIGNALS: usize = 510;
-
-// What a visit finds: a circle, or how many signals the order now has.
-#[derive(Clone, Copy)]
-enum Walk {
-    Circle,
-    Extended(u16),
-}
-
-pub fn wide(n: u16) -> usize
-    ensures { result ≡ n }
-{
-    n as usize
-}
 
 // Puts s at place c of the order, and returns the order's new count.
 fn put(s: usize, place: &mut [u16], order: &mut [u16; MOST_SIGNALS], c: u16) -> u16
@@ -32,7 +19,8 @@ fn put(s: usize, place: &mut [u16], order: &mut [u16; MOST_SIGNALS], c: u16) -> 
     c + 1
 }
 
-// Puts s, which is not in the order yet, and all that it depends on into the order, or finds a walk of `depth` dependences from s.
+// Puts s, which is not in the order yet, and all that it depends on into the order, and says how many signals the order has then;
+// none if it finds a walk of `depth` dependences from s.
 // place[s] is 0 while s is not in the order, and then 1 + its place there. An entry that is none, or in the order, is passed over.
 fn visit(
     deps: &[u16; 4 * MOST_SIGNALS],
@@ -41,69 +29,57 @@ fn visit(
     place: &mut [u16],
     order: &mut [u16; MOST_SIGNALS],
     count: u16,
-) -> Walk
+) -> Option<u16>
     requires { Fresh deps.now s place.old order.old count }
     ensures { IsVisited deps.now s depth place.old place.new order.new result }
 {
     if depth == 0 {
-        return Walk::Circle;
+        return None;
     }
     let mut c = count;
-    let mut k = 0;
-    while k < 4 {
-        let d = wide(deps[4 * s + k]);
-        if d < place.len() {
-            if place[d] == 0 {
-                match visit(deps, d, depth - 1, place, order, c) {
-                    Walk::Circle => {
-                        return Walk::Circle;
-                    }
-                    Walk::Extended(next) => {
-                        c = next;
-                    }
-                }
-            }
+    for k in 0..4 {
+        let d = usize::from(deps[4 * s + k]);
+        if d < place.len() && place[d] == 0 {
+            c = visit(deps, d, depth - 1, place, order, c)?;
         }
-        k += 1;
     }
-    Walk::Extended(put(s, place, order, c))
+    Some(put(s, place, order, c))
 }
 
-// Visits all signals, of which there are as many as places, that are not in the order yet.
+// Visits all signals, of which there are as many as places, that are not in the order yet; none if they hold a circle.
 fn visit_all(
     deps: &[u16; 4 * MOST_SIGNALS],
     place: &mut [u16],
     order: &mut [u16; MOST_SIGNALS],
-) -> Walk
+) -> Option<u16>
     requires { SoundPlaces deps.now place.old order.old 0 }
     ensures { IsOrdered deps.now (length place.old) order.new result }
 {
     let mut c = 0;
-    let mut s = 0;
-    while s < place.len() {
+    for s in 0..place.len() {
         if place[s] == 0 {
-            match visit(deps, s, place.len(), place, order, c) {
-                Walk::Circle => {
-                    return Walk::Circle;
-                }
-                Walk::Extended(next) => {
-                    c = next;
-                }
-            }
+            c = visit(deps, s, place.len(), place, order, c)?;
         }
-        s += 1;
     }
-    Walk::Extended(c)
+    Some(c)
 }
 
-// Puts the n signals of a table into the order, and says whether the table holds a circle.
-pub fn order_of(deps: &[u16; 4 * MOST_SIGNALS], n: usize, order: &mut [u16; MOST_SIGNALS]) -> bool
+/// What is wrong with a table that cannot be ordered: it holds a circle.
+#[derive(Clone, Copy, Debug, PartialEq, Eq)]
+pub struct Circular;
+
+/// Puts the `n` signals of a table into the order, or finds that the table holds a circle.
+pub fn order_of(
+    deps: &[u16; 4 * MOST_SIGNALS],
+    n: usize,
+    order: &mut [u16; MOST_SIGNALS],
+) -> Result<(), Circular>
     requires { (n ≤ most_signals) × (4 * n ≤ length deps.now) × (n ≤ length order.old) }
-    ensures { OrderOf (dep deps.now) n result order.new }
+    ensures { OrderOf (dep deps.now) n (is_err result) order.new }
 {
-    let mut place = [0u16; MOST_SIGNALS];
+    let mut place = [0; MOST_SIGNALS];
     match visit_all(deps, &mut place[..n], order) {
-        Walk::Circle => true,
-        Walk::Extended(_c) => false,
+        Some(_) => Ok(()),
+        None => Err(Circular),
     }
 }

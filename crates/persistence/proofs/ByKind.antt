@@ -4,11 +4,15 @@ use mathlib.Core.Bool.{Bool, true, false, false≢true}
 use mathlib.Core.List.{List}
 use Prim.Native.Nat.{ℕ, zero, suc, ◌+◌, ◌*◌, ◌<◌}
 use native.Mathlib.Omega.{arith}
-use Rattle.component.specs.Kind.{Kind, source, sink, queue, function, fork, join, switch, merge, Port, A, B, C, Use, input, output, unused, port_use, is_output, is_input}
+use Rattle.component.specs.declared.kinds.Kind.{Kind}
+use Rattle.component.specs.declared.kinds.Kind.TheVariants.{Source, Sink, Queue, Function, Fork, Join, Switch, Merge}
+use Rattle.component.specs.declared.kinds.Port.{Port}
+use Rattle.component.specs.declared.kinds.Port.TheVariants.{A, B, C}
+use Rattle.component.specs.Kind.{Use, input, output, unused, port_use, is_output, is_input}
 use Rattle.component.specs.Row.{port, first_map, second_map, capacity}
 use Rattle.wiring.specs.Ends.{on_side}
 use Rattle.wiring.specs.Signals.{Near, offer_a, offer_b, take_b, take_c, depends_on, has, signal_of}
-use Rattle.cells.specs.Cells.{Queue}
+use Rattle.cells.specs.Cells.{Queue as QueueCell}
 use Rattle.held.specs.Values.{when, unless, offered, or_else, either}
 use Rattle.held.specs.Picks.{picks_b}
 use Rattle.rules.specs.Rules.{Component, component_with, held, rule, mapped, to_b}
@@ -102,33 +106,33 @@ module _ (c : Component) (later : ℕ) (v w : ℕ → ℕ) where
   abbrev tc : ℕ
   tc = v (2 * port row C + 1)
 
-  by_kind : (d : Kind) → Given d c v → (d ≡ queue → Queue c.cell) → (p : Port) → Read d p → Lasts (twin_at v (port_use d p) (port row p)) (rule d p c (near row v)) (rule d p (after d) (near row w))
+  by_kind : (d : Kind) → Given d c v → (d ≡ Queue → QueueCell c.cell) → (p : Port) → Read d p → Lasts (twin_at v (port_use d p) (port row p)) (rule d p c (near row v)) (rule d p (after d) (near row w))
   unfolding rule depends_on port_use cell_next
-  by_kind source g q A r = rw (g.offers A refl) (source-lasts later (or_else (held c) c.choice) _)
-  by_kind source g q B r = lasts-never (λ z. refl)
-  by_kind source g q C r = lasts-never (λ z. refl)
-  by_kind sink g q A r = rw (g.takes A refl) (sink-lasts later oa (or_else (held c) c.choice))
-  by_kind sink g q B r = lasts-never (λ z. refl)
-  by_kind sink g q C r = lasts-never (λ z. refl)
-  by_kind queue g q A r = queue-take-lasts c.cell (q refl) (when tb ob) oa (v (2 * port row A + 1)) (capacity row)
-  by_kind queue g q B r = queue-offer-lasts c.cell (q refl) (when (v (2 * port row A + 1)) oa) ob tb
-  by_kind queue g q C r = lasts-never (λ z. refl)
-  by_kind function g q A r = lasts-one (λ t. t) refl (r take_b refl refl) (λ z p. rw z)
-  by_kind function g q B r = lasts-one (mapped (first_map row)) refl (r offer_a refl refl) (λ z p. z)
-  by_kind function g q C r = lasts-never (λ z. refl)
-  by_kind fork g q A r = lasts-both (λ t. t) (λ t. t) refl refl (r take_b refl refl) (r take_c refl refl) (λ z. (rw z (when-none tc), rw z (when-none tb)))
-  by_kind fork g q B r = lasts-both (λ t. t) (mapped (first_map row)) refl refl (r take_c refl refl) (r offer_a refl refl) (λ z. (rw z, rw z))
-  by_kind fork g q C r = lasts-both (λ t. t) (mapped (second_map row)) refl refl (r take_b refl refl) (r offer_a refl refl) (λ z. (rw z, rw z (when-none tb)))
-  by_kind join g q A r = lasts-both offered (λ t. t) refl refl (r offer_b refl refl) (r take_c refl refl) (λ z. (rw z, rw z (when-none (offered ob))))
-  by_kind join g q B r = lasts-both offered (λ t. t) refl refl (r offer_a refl refl) (r take_c refl refl) (λ z. (rw z, rw z))
-  by_kind join g q C r = lasts-both offered (mapped (first_map row)) refl refl (r offer_b refl refl) (r offer_a refl refl) (λ z. (rw z (when-none (offered oa)), rw z (when-none (offered ob))))
-  by_kind switch g q A r = lasts-never (λ z. rw z)
-  by_kind switch g q B r = lasts-one (λ o. when (to_b row o) o) refl (r offer_a refl refl) (sent-to-B (to_b row oa) oa tb tc)
-  by_kind switch g q C r = lasts-one (λ o. unless (to_b row o) o) refl (r offer_a refl refl) (sent-to-C (to_b row oa) oa tb tc)
-  by_kind merge g q A r = lasts-never (λ z. rw z (unless-none (picks_b (held c) c.choice 0 ob)))
-  by_kind merge g q B r = lasts-never (λ z. rw z (when-none (picks_b (held c) c.choice oa 0)))
-  by_kind merge g q C r = rw (g.offers C refl) (merge-lasts later (picks_b (held c) c.choice oa ob) (picks-le (held c) c.choice oa ob) (r offer_a refl refl) (r offer_b refl refl))
+  by_kind Source g q A r = rw (g.offers A refl) (source-lasts later (or_else (held c) c.choice) _)
+  by_kind Source g q B r = lasts-never (λ z. refl)
+  by_kind Source g q C r = lasts-never (λ z. refl)
+  by_kind Sink g q A r = rw (g.takes A refl) (sink-lasts later oa (or_else (held c) c.choice))
+  by_kind Sink g q B r = lasts-never (λ z. refl)
+  by_kind Sink g q C r = lasts-never (λ z. refl)
+  by_kind Queue g q A r = queue-take-lasts c.cell (q refl) (when tb ob) oa (v (2 * port row A + 1)) (capacity row)
+  by_kind Queue g q B r = queue-offer-lasts c.cell (q refl) (when (v (2 * port row A + 1)) oa) ob tb
+  by_kind Queue g q C r = lasts-never (λ z. refl)
+  by_kind Function g q A r = lasts-one (λ t. t) refl (r take_b refl refl) (λ z p. rw z)
+  by_kind Function g q B r = lasts-one (mapped (first_map row)) refl (r offer_a refl refl) (λ z p. z)
+  by_kind Function g q C r = lasts-never (λ z. refl)
+  by_kind Fork g q A r = lasts-both (λ t. t) (λ t. t) refl refl (r take_b refl refl) (r take_c refl refl) (λ z. (rw z (when-none tc), rw z (when-none tb)))
+  by_kind Fork g q B r = lasts-both (λ t. t) (mapped (first_map row)) refl refl (r take_c refl refl) (r offer_a refl refl) (λ z. (rw z, rw z))
+  by_kind Fork g q C r = lasts-both (λ t. t) (mapped (second_map row)) refl refl (r take_b refl refl) (r offer_a refl refl) (λ z. (rw z, rw z (when-none tb)))
+  by_kind Join g q A r = lasts-both offered (λ t. t) refl refl (r offer_b refl refl) (r take_c refl refl) (λ z. (rw z, rw z (when-none (offered ob))))
+  by_kind Join g q B r = lasts-both offered (λ t. t) refl refl (r offer_a refl refl) (r take_c refl refl) (λ z. (rw z, rw z))
+  by_kind Join g q C r = lasts-both offered (mapped (first_map row)) refl refl (r offer_b refl refl) (r offer_a refl refl) (λ z. (rw z (when-none (offered oa)), rw z (when-none (offered ob))))
+  by_kind Switch g q A r = lasts-never (λ z. rw z)
+  by_kind Switch g q B r = lasts-one (λ o. when (to_b row o) o) refl (r offer_a refl refl) (sent-to-B (to_b row oa) oa tb tc)
+  by_kind Switch g q C r = lasts-one (λ o. unless (to_b row o) o) refl (r offer_a refl refl) (sent-to-C (to_b row oa) oa tb tc)
+  by_kind Merge g q A r = lasts-never (λ z. rw z (unless-none (picks_b (held c) c.choice 0 ob)))
+  by_kind Merge g q B r = lasts-never (λ z. rw z (when-none (picks_b (held c) c.choice oa 0)))
+  by_kind Merge g q C r = rw (g.offers C refl) (merge-lasts later (picks_b (held c) c.choice oa ob) (picks-le (held c) c.choice oa ob) (r offer_a refl refl) (r offer_b refl refl))
 
-  pub lasts-at : (d : Kind) → Given d c v → (d ≡ queue → Queue c.cell) → (p : Port) → ((n : Near) → has (depends_on d p) n ≡ true → LastsAt v w (signal_of row n)) →
+  pub lasts-at : (d : Kind) → Given d c v → (d ≡ Queue → QueueCell c.cell) → (p : Port) → ((n : Near) → has (depends_on d p) n ≡ true → LastsAt v w (signal_of row n)) →
       Lasts (twin_at v (port_use d p) (port row p)) (rule d p c (near row v)) (rule d p (after d) (near row w))
   lasts-at d g q p r = by_kind d g q p (read d g p r)

@@ -4,7 +4,10 @@ use mathlib.Core.List.{List}
 use Prim.Native.Nat.{ℕ, zero, suc, ◌+◌, ◌*◌, ◌<◌}
 use native.Mathlib.Omega.{arith}
 use lib.ListN.{get_or}
-use Rattle.component.specs.Kind.{merge, Port, A, B, C, port_use}
+use Rattle.component.specs.declared.kinds.Kind.TheVariants.{Merge}
+use Rattle.component.specs.declared.kinds.Port.{Port}
+use Rattle.component.specs.declared.kinds.Port.TheVariants.{A, B, C}
+use Rattle.component.specs.Kind.{port_use}
 use Rattle.component.specs.Row.{kind, port}
 use Rattle.netlist.specs.Netlist.{Netlist, row_of}
 use Rattle.netlist.specs.Accepted.{AcceptedFabric}
@@ -35,7 +38,7 @@ waited (suc t) o p n e = absurd (omega arith)
 
 -- nothing is held at start
 module _ (f : Netlist) (ends order : List ℕ) (a : AcceptedFabric f ends order) (state : List ℕ) where
-  nothing : (k : ℕ) → k < f.components → kind (row_of f k) ≡ merge → get_or (cell (started f state) k) 0 0 ≡ 0
+  nothing : (k : ℕ) → k < f.components → kind (row_of f k) ≡ Merge → get_or (cell (started f state) k) 0 0 ≡ 0
   unfolding start_cell
   nothing k h e = rw (cell-started f ends order a state k h, e)
 
@@ -46,7 +49,7 @@ module _ (f : Netlist) (ends order state choices : List ℕ) (t : CanStep f ends
   abbrev v : ℕ → ℕ
   v = value f state choices
 
-  module _ (k : ℕ) (h : k < f.components) (e : kind (row_of f k) ≡ merge) where
+  module _ (k : ℕ) (h : k < f.components) (e : kind (row_of f k) ≡ Merge) where
     abbrev row : List ℕ
     row = row_of f k
 

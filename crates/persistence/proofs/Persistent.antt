@@ -5,7 +5,8 @@ use mathlib.Core.List.{List}
 use Prim.Native.Nat.{ℕ, ◌+◌, ◌*◌, ◌<◌}
 use native.Mathlib.Omega.{arith}
 use lib.ListN.{get_or}
-use Rattle.component.specs.Kind.{Port, port_use, is_output, is_input}
+use Rattle.component.specs.declared.kinds.Port.{Port}
+use Rattle.component.specs.Kind.{port_use, is_output, is_input}
 use Rattle.component.specs.Row.{kind, port}
 use Rattle.netlist.specs.Netlist.{Netlist, row_of}
 use Rattle.cells.proofs.Good.{queue-whole}

@@ -1,4 +1,3 @@
-pub mod Known
 pub mod Passed
 pub mod Reaches
 pub mod Rounds

@@ -7,7 +7,11 @@ use lib.Dec.{ltb, eqb}
 use Rattle.digits.specs.Least.{some}
 use Rattle.digits.proofs.Bools.{and_both, both_true}
 use Rattle.digits.proofs.Some.{some_mono}
-use Rattle.component.specs.Kind.{Kind, source, sink, queue, function, fork, join, switch, merge, Port, A, B, C, port_use, is_input}
+use Rattle.component.specs.declared.kinds.Kind.{Kind}
+use Rattle.component.specs.declared.kinds.Kind.TheVariants.{Source, Sink, Queue, Function, Fork, Join, Switch, Merge}
+use Rattle.component.specs.declared.kinds.Port.{Port}
+use Rattle.component.specs.declared.kinds.Port.TheVariants.{A, B, C}
+use Rattle.component.specs.Kind.{port_use, is_input}
 use Rattle.component.specs.Row.{first_map, second_map, masked, filling, fill_colour}
 use Rattle.reach.specs.Rounds.{image, passed}
 
@@ -29,17 +33,17 @@ module _ (colours : ℕ) (row : List ℕ) (a b c e : ℕ → Bool) (d : ℕ) (l 
 
   pub passed-more : (n : Kind) (p : Port) → (is_input (port_use n A) ≡ true → Among colours a c) → (is_input (port_use n B) ≡ true → Among colours b e) → passed n p colours row a b d ≡ true → passed n p colours row c e d ≡ true
   unfolding passed port_use
-  passed-more source p h k t = t
-  passed-more sink p h k t = t
-  passed-more queue p h k t = either-more (a d) (ltb 0 (filling row) && eqb (fill_colour row) d) (c d) (ltb 0 (filling row) && eqb (fill_colour row) d) (h refl d l) (λ q. q) t
-  passed-more function p h k t = image-more (h refl) (first_map row) t
-  passed-more fork A h k t = t
-  passed-more fork B h k t = image-more (h refl) (first_map row) t
-  passed-more fork C h k t = image-more (h refl) (second_map row) t
-  passed-more join p h k t =
+  passed-more Source p h k t = t
+  passed-more Sink p h k t = t
+  passed-more Queue p h k t = either-more (a d) (ltb 0 (filling row) && eqb (fill_colour row) d) (c d) (ltb 0 (filling row) && eqb (fill_colour row) d) (h refl d l) (λ q. q) t
+  passed-more Function p h k t = image-more (h refl) (first_map row) t
+  passed-more Fork A h k t = t
+  passed-more Fork B h k t = image-more (h refl) (first_map row) t
+  passed-more Fork C h k t = image-more (h refl) (second_map row) t
+  passed-more Join p h k t =
       let s = and_both (some colours b) (image colours (first_map row) a d) t in
       both_true (some_mono b e colours (k refl) s.0) (image-more (h refl) (first_map row) s.1)
-  passed-more switch A h k t = t
-  passed-more switch B h k t = gate-more (h refl) (masked row d) t
-  passed-more switch C h k t = gate-more (h refl) (not (masked row d)) t
-  passed-more merge p h k t = either-more (a d) (b d) (c d) (e d) (h refl d l) (k refl d l) t
+  passed-more Switch A h k t = t
+  passed-more Switch B h k t = gate-more (h refl) (masked row d) t
+  passed-more Switch C h k t = gate-more (h refl) (not (masked row d)) t
+  passed-more Merge p h k t = either-more (a d) (b d) (c d) (e d) (h refl d l) (k refl d l) t

@@ -8,7 +8,11 @@ use borrow.Author.Tests.{ltb-true, lt-ltb, eqb-true, eq-eqb, not-true}
 use Rattle.digits.specs.Least.{some}
 use Rattle.digits.proofs.Bools.{and_both, both_true, or_right}
 use Rattle.digits.proofs.Some.{some_at, some_is}
-use Rattle.component.specs.Kind.{Kind, source, sink, queue, function, fork, join, switch, merge, Port, A, B, C, port_use, is_output}
+use Rattle.component.specs.declared.kinds.Kind.{Kind}
+use Rattle.component.specs.declared.kinds.Kind.TheVariants.{Source, Sink, Queue, Function, Fork, Join, Switch, Merge}
+use Rattle.component.specs.declared.kinds.Port.{Port}
+use Rattle.component.specs.declared.kinds.Port.TheVariants.{A, B, C}
+use Rattle.component.specs.Kind.{port_use, is_output}
 use Rattle.component.specs.Row.{kind, port, first_map, second_map, masked, filling, fill_colour}
 use Rattle.netlist.specs.Netlist.{Netlist, row_of}
 use Rattle.netlist.specs.Accepted.{AcceptedFabric}
@@ -33,41 +37,41 @@ module _ (f : Netlist) (k : ℕ) (low : k < f.components) (s : ℕ → ℕ → B
   out : (n : Kind) → kind row ≡ n → (p : Port) → is_output (port_use n p) ≡ true → (d : ℕ) → d < f.colours
       → passed n p f.colours row (s (port row A)) (s (port row B)) d ≡ true → At p d
   unfolding passed port_use
-  out source i A o d l t = by_source k d low i l t
-  out source i B o d l t = absurd (true≢false (sym o))
-  out source i C o d l t = absurd (true≢false (sym o))
-  out sink i p o d l t = absurd (true≢false (sym t))
-  out queue i A o d l t = absurd (true≢false (sym o))
-  out queue i B o d l t = go (s (port row A) d) refl t
+  out Source i A o d l t = by_source k d low i l t
+  out Source i B o d l t = absurd (true≢false (sym o))
+  out Source i C o d l t = absurd (true≢false (sym o))
+  out Sink i p o d l t = absurd (true≢false (sym t))
+  out Queue i A o d l t = absurd (true≢false (sym o))
+  out Queue i B o d l t = go (s (port row A) d) refl t
     where
       go : (b : Bool) → s (port row A) d ≡ b → (b || (ltb 0 (filling row) && eqb (fill_colour row) d)) ≡ true → At B d
       go true e q = by_queue k d low i (inside A d e)
       go false e q =
           let z = and_both (ltb 0 (filling row)) (eqb (fill_colour row) d) q in
           subst (At B) (eqb-true (fill_colour row) d z.1) (by_filling k low i (ltb-true 0 (filling row) z.0))
-  out queue i C o d l t = absurd (true≢false (sym o))
-  out function i A o d l t = absurd (true≢false (sym o))
-  out function i B o d l t = by-image (first_map row) B (λ e r. by_function k e low i r) d t
-  out function i C o d l t = absurd (true≢false (sym o))
-  out fork i A o d l t = absurd (true≢false (sym o))
-  out fork i B o d l t = by-image (first_map row) B (λ e r. by_fork_b k e low i r) d t
-  out fork i C o d l t = by-image (second_map row) C (λ e r. by_fork_c k e low i r) d t
-  out join i A o d l t = absurd (true≢false (sym o))
-  out join i B o d l t = absurd (true≢false (sym o))
-  out join i C o d l t =
+  out Queue i C o d l t = absurd (true≢false (sym o))
+  out Function i A o d l t = absurd (true≢false (sym o))
+  out Function i B o d l t = by-image (first_map row) B (λ e r. by_function k e low i r) d t
+  out Function i C o d l t = absurd (true≢false (sym o))
+  out Fork i A o d l t = absurd (true≢false (sym o))
+  out Fork i B o d l t = by-image (first_map row) B (λ e r. by_fork_b k e low i r) d t
+  out Fork i C o d l t = by-image (second_map row) C (λ e r. by_fork_c k e low i r) d t
+  out Join i A o d l t = absurd (true≢false (sym o))
+  out Join i B o d l t = absurd (true≢false (sym o))
+  out Join i C o d l t =
       let z = and_both (some f.colours (s (port row B))) (image f.colours (first_map row) (s (port row A)) d) t in
       let m = some_is (s (port row B)) f.colours z.0 in
       by-image (first_map row) C (λ e r. by_join k e m.0 low i r (inside B m.0 m.2)) d z.1
-  out switch i A o d l t = absurd (true≢false (sym o))
-  out switch i B o d l t =
+  out Switch i A o d l t = absurd (true≢false (sym o))
+  out Switch i B o d l t =
       let z = and_both (s (port row A) d) (masked row d) t in
       by_switch_b k d low i (inside A d z.0) z.1
-  out switch i C o d l t =
+  out Switch i C o d l t =
       let z = and_both (s (port row A) d) (not (masked row d)) t in
       by_switch_c k d low i (inside A d z.0) (not-true (masked row d) z.1)
-  out merge i A o d l t = absurd (true≢false (sym o))
-  out merge i B o d l t = absurd (true≢false (sym o))
-  out merge i C o d l t = go (s (port row A) d) refl t
+  out Merge i A o d l t = absurd (true≢false (sym o))
+  out Merge i B o d l t = absurd (true≢false (sym o))
+  out Merge i C o d l t = go (s (port row A) d) refl t
     where
       go : (b : Bool) → s (port row A) d ≡ b → (b || s (port row B) d) ≡ true → At C d
       go true e q = by_merge_a k d low i (inside A d e)
@@ -107,19 +111,19 @@ module _ (f : Netlist) (ends order : List ℕ) (a : AcceptedFabric f ends order)
 
     pub closed-reaches : {x d : ℕ} → Reaches f x d → s x d ≡ true
     unfolding passed port_use
-    closed-reaches (by_source k d low i l m) = there k low source i A refl d l m
-    closed-reaches (by_queue k d low i r) = there k low queue i B refl d (reaches-below r).1 (rw (closed-reaches r))
+    closed-reaches (by_source k d low i l m) = there k low Source i A refl d l m
+    closed-reaches (by_queue k d low i r) = there k low Queue i B refl d (reaches-below r).1 (rw (closed-reaches r))
     closed-reaches (by_filling k low i l) =
-        there k low queue i B refl (fill_colour (row_of f k)) (a.rows k low).fill_colours
+        there k low Queue i B refl (fill_colour (row_of f k)) (a.rows k low).fill_colours
         (or_right (s (port (row_of f k) A) (fill_colour (row_of f k))) _ (both_true (lt-ltb 0 (filling (row_of f k)) l) (eq-eqb (fill_colour (row_of f k)) (fill_colour (row_of f k)) refl)))
-    closed-reaches (by_function k d low i r) = let l = (reaches-below r).1 in there k low function i B refl (first_map (row_of f k) d) ((a.rows k low).first_maps d l) (in_image (first_map (row_of f k)) (s (port (row_of f k) A)) d l (closed-reaches r))
-    closed-reaches (by_fork_b k d low i r) = let l = (reaches-below r).1 in there k low fork i B refl (first_map (row_of f k) d) ((a.rows k low).first_maps d l) (in_image (first_map (row_of f k)) (s (port (row_of f k) A)) d l (closed-reaches r))
-    closed-reaches (by_fork_c k d low i r) = let l = (reaches-below r).1 in there k low fork i C refl (second_map (row_of f k) d) ((a.rows k low).second_maps d l) (in_image (second_map (row_of f k)) (s (port (row_of f k) A)) d l (closed-reaches r))
+    closed-reaches (by_function k d low i r) = let l = (reaches-below r).1 in there k low Function i B refl (first_map (row_of f k) d) ((a.rows k low).first_maps d l) (in_image (first_map (row_of f k)) (s (port (row_of f k) A)) d l (closed-reaches r))
+    closed-reaches (by_fork_b k d low i r) = let l = (reaches-below r).1 in there k low Fork i B refl (first_map (row_of f k) d) ((a.rows k low).first_maps d l) (in_image (first_map (row_of f k)) (s (port (row_of f k) A)) d l (closed-reaches r))
+    closed-reaches (by_fork_c k d low i r) = let l = (reaches-below r).1 in there k low Fork i C refl (second_map (row_of f k) d) ((a.rows k low).second_maps d l) (in_image (second_map (row_of f k)) (s (port (row_of f k) A)) d l (closed-reaches r))
     closed-reaches (by_join k d e low i r t) =
         let l = (reaches-below r).1 in
-        there k low join i C refl (first_map (row_of f k) d) ((a.rows k low).first_maps d l)
+        there k low Join i C refl (first_map (row_of f k) d) ((a.rows k low).first_maps d l)
         (both_true (some_at (s (port (row_of f k) B)) f.colours e (reaches-below t).1 (closed-reaches t)) (in_image (first_map (row_of f k)) (s (port (row_of f k) A)) d l (closed-reaches r)))
-    closed-reaches (by_switch_b k d low i r m) = there k low switch i B refl d (reaches-below r).1 (both_true (closed-reaches r) m)
-    closed-reaches (by_switch_c k d low i r m) = there k low switch i C refl d (reaches-below r).1 (both_true (closed-reaches r) (ap not m))
-    closed-reaches (by_merge_a k d low i r) = there k low merge i C refl d (reaches-below r).1 (rw (closed-reaches r))
-    closed-reaches (by_merge_b k d low i r) = there k low merge i C refl d (reaches-below r).1 (or_right (s (port (row_of f k) A) d) (s (port (row_of f k) B) d) (closed-reaches r))
+    closed-reaches (by_switch_b k d low i r m) = there k low Switch i B refl d (reaches-below r).1 (both_true (closed-reaches r) m)
+    closed-reaches (by_switch_c k d low i r m) = there k low Switch i C refl d (reaches-below r).1 (both_true (closed-reaches r) (ap not m))
+    closed-reaches (by_merge_a k d low i r) = there k low Merge i C refl d (reaches-below r).1 (rw (closed-reaches r))
+    closed-reaches (by_merge_b k d low i r) = there k low Merge i C refl d (reaches-below r).1 (or_right (s (port (row_of f k) A) d) (s (port (row_of f k) B) d) (closed-reaches r))

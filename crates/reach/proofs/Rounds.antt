@@ -8,7 +8,9 @@ use lib.Dec.{ltb}
 use borrow.Author.Tests.{ltb-true}
 use Rattle.digits.proofs.Bools.{and_both}
 use Rattle.digits.proofs.Settles.{settles}
-use Rattle.component.specs.Kind.{Port, A, B, port_use, is_output}
+use Rattle.component.specs.declared.kinds.Port.{Port}
+use Rattle.component.specs.declared.kinds.Port.TheVariants.{A, B}
+use Rattle.component.specs.Kind.{port_use, is_output}
 use Rattle.component.specs.Row.{kind, port}
 use Rattle.wiring.specs.Ends.{end_port}
 use Rattle.wiring.specs.Signals.{is_offer, end_of}

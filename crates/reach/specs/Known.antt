@@ -7,7 +7,3 @@ use Rattle.reach.specs.Rounds.{set_byte}
 pub record SetBytes (f : Netlist) (sets : List ℕ) : Type 0 where
   pub long : f.channels ≤ length sets
   pub at : (x : ℕ) → x < f.channels → get_or sets x 0 ≡ set_byte f x
-
--- the same, or no bytes at all where the sets are not worked out yet
-pub record Known (f : Netlist) (sets : List ℕ) : Type 0 where
-  pub given : 0 < length sets → SetBytes f sets

@@ -1,7 +1,11 @@
 -- The same sets, worked out: the sentences applied in rounds, from empty sets, until nothing is new.
 use Rattle.std.specs.Prelude.{◌≡◌, Bool, true, false, not, ◌&&◌, ◌||◌, List, ℕ, zero, suc, ◌*◌, ◌/◌, ◌<◌, ltb, eqb}
 use Rattle.digits.specs.Least.{some}
-use Rattle.component.specs.Kind.{Kind, source, sink, queue, function, fork, join, switch, merge, Port, A, B, C, port_use, is_output}
+use Rattle.component.specs.declared.kinds.Kind.{Kind}
+use Rattle.component.specs.declared.kinds.Kind.TheVariants.{Source, Sink, Queue, Function, Fork, Join, Switch, Merge}
+use Rattle.component.specs.declared.kinds.Port.{Port}
+use Rattle.component.specs.declared.kinds.Port.TheVariants.{A, B, C}
+use Rattle.component.specs.Kind.{port_use, is_output}
 use Rattle.component.specs.Row.{kind, port, first_map, second_map, masked, filling, fill_colour, mask_byte}
 use Rattle.wiring.specs.Ends.{end_port}
 use Rattle.wiring.specs.Signals.{end_of}
@@ -14,23 +18,23 @@ image colours map set d = some colours (λ e. eqb (map e) d && set e)
 -- The colours that go out at an output port, where those in a come in at port A and those in b at port B.
 unfoldable pub passed : Kind → Port → ℕ → List ℕ → (ℕ → Bool) → (ℕ → Bool) → ℕ → Bool
 -- a source's mask
-passed source p colours row a b d = masked row d
-passed sink p colours row a b d = false
+passed Source p colours row a b d = masked row d
+passed Sink p colours row a b d = false
 -- queue input plus the fill colour if the filling is above 0
-passed queue p colours row a b d = a d || (ltb 0 (filling row) && eqb (fill_colour row) d)
+passed Queue p colours row a b d = a d || (ltb 0 (filling row) && eqb (fill_colour row) d)
 -- function and fork maps
-passed function p colours row a b d = image colours (first_map row) a d
-passed fork A colours row a b d = false
-passed fork B colours row a b d = image colours (first_map row) a d
-passed fork C colours row a b d = image colours (second_map row) a d
+passed Function p colours row a b d = image colours (first_map row) a d
+passed Fork A colours row a b d = false
+passed Fork B colours row a b d = image colours (first_map row) a d
+passed Fork C colours row a b d = image colours (second_map row) a d
 -- join maps of A if B's set has a member
-passed join p colours row a b d = some colours b && image colours (first_map row) a d
+passed Join p colours row a b d = some colours b && image colours (first_map row) a d
 -- switch masks
-passed switch A colours row a b d = false
-passed switch B colours row a b d = a d && masked row d
-passed switch C colours row a b d = a d && not (masked row d)
+passed Switch A colours row a b d = false
+passed Switch B colours row a b d = a d && masked row d
+passed Switch C colours row a b d = a d && not (masked row d)
 -- the union at a merge
-passed merge p colours row a b d = a d || b d
+passed Merge p colours row a b d = a d || b d
 
 -- the same at port p of component k, where s gives the sets of all channels
 abbrev pub passed_at : Netlist → (ℕ → ℕ → Bool) → ℕ → Port → ℕ → Bool

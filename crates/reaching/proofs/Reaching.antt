@@ -1,57 +1,51 @@
--- What each way through `reach` comes to. Assumes nothing.
-use mathlib.Core.Path.{◌≡◌, ap, ap₂, sym, ◌∙◌}
-use mathlib.Core.Bool.{Bool, cond}
-use mathlib.Core.List.{List, ◌++◌}
-use Prim.Native.Nat.{ℕ, ◌≤◌, ◌<◌}
-use native.Mathlib.Nat.{zero-add}
-use lib.ListN.{length, take, drop}
+-- What `reach` comes to, by what reading comes to. Assumes nothing.
+use Rattle.std.proofs.Common.{◌≡◌, refl, ap, ap₂, ◌∙◌, List, ◌++◌, ℕ, length, take, drop, Result, Ok, Err, zero-add}
 use lib.Seq.{paste, take_at}
-use borrow.Author.Tests.{lt-ltb, le-ltb}
 use Rattle.digits.specs.UpTo.{up_to}
 use Rattle.digits.proofs.UpTo.{length-up_to, filled_is}
+use Rattle.refusals.specs.Refusals.{first_refusal}
 use Rattle.refusals.specs.Room.{room_for}
 use Rattle.refusals.specs.declared.Refusal.{Refusal}
-use Rattle.refusals.specs.declared.Refusal.TheVariants.{ResultSpace}
-use Rattle.refusals.specs.declared.Verdict.{Verdict}
-use Rattle.refusals.specs.declared.Verdict.TheVariants.{Accepted, Refused}
+use Rattle.refusals.proofs.Refusals.{and_then, refusal-append}
+use Rattle.record.specs.Table.{open_table}
 use Rattle.netlist.specs.Netlist.{Netlist, netlist_of}
 use Rattle.netlist.specs.declared.Size.{Size}
 use Rattle.reach.specs.Rounds.{set_byte}
 use Rattle.reach.specs.Known.{SetBytes}
-use Rattle.reader.specs.File.{netlist_in}
-use Rattle.reader.specs.Reading.{reading}
-use Rattle.reader.specs.declared.Reading.TheVariants.{Fabric, Rejected}
-use Rattle.reader.proofs.Opened.{rest-refused, rest-judged, netlist-is}
+use Rattle.reader.specs.File.{header_fields, size_in, netlist_in, file_tests}
+use Rattle.reader.specs.Reading.{read_as, reading}
 use Rattle.reaching.specs.Reach.{reach_tests, reach_verdict, sets_by, sets_after_reach}
 
-module _ (file : List ℕ) where
-  pub reach-refused : {r : Refusal} → reading file ≡ Rejected r → (space : ℕ) → Refused r ≡ reach_verdict file space
-  unfolding reach_verdict
-  reach-refused e space = rest-refused file (reach_tests (netlist_in file) space) e
+-- reading, and then what else is tested
+abbrev pub after : Result Size Refusal → (Size → Result Unit Refusal) → Result Unit Refusal
+after (Ok s) f = f s
+after (Err r) f = Err r
 
-  -- the bytes after a verdict
-  pub sets-kept : (bytes : List ℕ) {r : Refusal} → Refused r ≡ reach_verdict file (length bytes) → bytes ≡ sets_after_reach file bytes
-  unfolding sets_after_reach sets_by
-  sets-kept bytes e = ap (λ (v : Verdict). sets_by v (netlist_in file) bytes) e
+after_read : (v : Result Unit Refusal) (s : Size) (f : Size → Result Unit Refusal) → and_then v (f s) ≡ after (read_as v s) f
+after_read (Ok _) s f = refl
+after_read (Err r) s f = refl
 
-  pub sets-written : (bytes : List ℕ) → Accepted ≡ reach_verdict file (length bytes) → {f : Netlist} → netlist_in file ≡ f → up_to f.channels (set_byte f) ++ drop f.channels bytes ≡ sets_after_reach file bytes
-  unfolding sets_after_reach sets_by
-  sets-written bytes e {f} same = sym (ap (λ (g : Netlist). up_to g.channels (set_byte g) ++ drop g.channels bytes) same) ∙ ap (λ (v : Verdict). sets_by v (netlist_in file) bytes) e
+pub reach_by : (file : List ℕ) (space : ℕ) → reach_verdict file space ≡ after (reading file) (λ s. room_for space s.channels)
+unfolding reach_verdict reading netlist_in
+reach_by file space = refusal-append (file_tests file) (reach_tests (netlist_in file) space) ∙ after_read (first_refusal (file_tests file)) (size_in (header_fields file)) (λ s. room_for space s.channels)
 
-  -- 23, of a fabric that was read
-  pub reach-read : {s : Size} → reading file ≡ Fabric s → (space : ℕ) → room_for Accepted space s.channels ≡ reach_verdict file space
-  unfolding reach_verdict
-  reach-read {s} e space = rest-judged file e (netlist_of s _) (netlist-is file e) (λ g. reach_tests g space)
+-- and what is written
+abbrev pub sets_read : Result Size Refusal → List ℕ → List ℕ → List ℕ
+sets_read (Ok s) file bytes = sets_by (room_for (length bytes) s.channels) (netlist_of s (open_table file s.components)) bytes
+sets_read (Err r) file bytes = bytes
 
-  pub reach-short : {s : Size} → reading file ≡ Fabric s → (space : ℕ) → space < s.channels → Refused ResultSpace ≡ reach_verdict file space
-  reach-short {s} e space l = sym (ap (λ (b : Bool). cond b (Refused ResultSpace) Accepted) (lt-ltb space s.channels l)) ∙ reach-read e space
+written : (v : Result Unit Refusal) (s : Size) (file bytes : List ℕ) → sets_by (and_then v (room_for (length bytes) s.channels)) (netlist_of s (open_table file s.components)) bytes ≡ sets_read (read_as v s) file bytes
+written (Ok _) s file bytes = refl
+written (Err r) s file bytes = refl
 
-  pub reach-given : {s : Size} → reading file ≡ Fabric s → (space : ℕ) → s.channels ≤ space → Accepted ≡ reach_verdict file space
-  reach-given {s} e space l = sym (ap (λ (b : Bool). cond b (Refused ResultSpace) Accepted) (le-ltb space s.channels l)) ∙ reach-read e space
+pub sets_by_reading : (file bytes : List ℕ) → sets_after_reach file bytes ≡ sets_read (reading file) file bytes
+unfolding sets_after_reach reach_verdict reading netlist_in
+sets_by_reading file bytes =
+    ap (λ (v : Result Unit Refusal). sets_by v (netlist_in file) bytes) (refusal-append (file_tests file) (reach_tests (netlist_in file) (length bytes)))
+    ∙ written (first_refusal (file_tests file)) (size_in (header_fields file)) file bytes
 
--- the sets, copied
-pub copied : (f : Netlist) (out : List ℕ) {sets after : List ℕ} → SetBytes f sets → after ≡ paste out 0 sets f.channels → after ≡ up_to f.channels (set_byte f) ++ drop f.channels out
-copied f out {sets} h e = e ∙ ap₂ (λ (l : List ℕ) (k : ℕ). l ++ drop k out) taken (zero-add f.channels)
-  where
-    taken : take f.channels sets ≡ up_to f.channels (set_byte f)
-    taken = ap (λ (l : List ℕ). take f.channels l) (filled_is (set_byte f) sets 0 f.channels h.long h.at) ∙ take_at (up_to f.channels (set_byte f)) (drop f.channels sets) f.channels (length-up_to (set_byte f) f.channels)
+-- the sets of the channels
+pub copied : (f : Netlist) {sets : List ℕ} → SetBytes f sets → take f.channels sets ≡ up_to f.channels (set_byte f)
+copied f {sets} h =
+    ap (λ (l : List ℕ). take f.channels l) (filled_is (set_byte f) sets 0 f.channels h.long h.at)
+    ∙ take_at (up_to f.channels (set_byte f)) (drop f.channels sets) f.channels (length-up_to (set_byte f) f.channels)

@@ -1,4 +1,5 @@
 -- What an accepted file gives. Assumes nothing.
+use Rattle.std.proofs.Common.{Ok}
 use mathlib.Core.Path.{◌≡◌, ap, sym, ◌∙◌}
 use Prim.Native.Nat.{ℕ, ◌≤◌}
 use native.Mathlib.Omega.{arith}
@@ -7,7 +8,6 @@ use lib.ListN.{length}
 use lib.Dec.{ltb}
 use Rattle.refusals.specs.Refusals.{first_refusal}
 use Rattle.refusals.specs.declared.Refusal.TheVariants.{FileShort}
-use Rattle.refusals.specs.declared.Verdict.TheVariants.{Accepted}
 use Rattle.refusals.proofs.Refusals.{refusal-append, cond-accepted, then-accepted}
 use Rattle.record.specs.Table.{open_table}
 use Rattle.record.specs.Sizes.{file_size}
@@ -15,11 +15,10 @@ use Rattle.component.specs.Limits.{most_components}
 use Rattle.netlist.specs.declared.Size.{Size}
 use Rattle.reader.specs.File.{header_fields, colours_in, channels_in, components_in, size_in, header_tests, record_tests, file_tests}
 use Rattle.reader.specs.Reading.{reading}
-use Rattle.reader.specs.declared.Reading.TheVariants.{Fabric}
 use Rattle.reader.proofs.Facts.{read-fabric, HeaderFacts, header-facts}
 
-module _ (file : List ℕ) {s : Size} (e : reading file ≡ Fabric s) where
-  pub accepted-parts : (first_refusal (file_tests file) ≡ Accepted) × (size_in (header_fields file) ≡ s)
+module _ (file : List ℕ) {s : Size} (e : reading file ≡ Ok s) where
+  pub accepted-parts : (first_refusal (file_tests file) ≡ (Ok tt)) × (size_in (header_fields file) ≡ s)
   unfolding reading
   accepted-parts = read-fabric (first_refusal (file_tests file)) _ e
 
@@ -28,8 +27,8 @@ module _ (file : List ℕ) {s : Size} (e : reading file ≡ Fabric s) where
   accepted-size = (ap (λ (t : Size). t.colours) accepted-parts.1, ap (λ (t : Size). t.channels) accepted-parts.1, ap (λ (t : Size). t.components) accepted-parts.1)
 
   -- the tests behind the first
-  rest : (first_refusal (header_tests (header_fields file) file) ≡ Accepted)
-      × (first_refusal (record_tests (colours_in (header_fields file)) (channels_in (header_fields file)) file (open_table file (components_in (header_fields file))) (components_in (header_fields file))) ≡ Accepted)
+  rest : (first_refusal (header_tests (header_fields file) file) ≡ (Ok tt))
+      × (first_refusal (record_tests (colours_in (header_fields file)) (channels_in (header_fields file)) file (open_table file (components_in (header_fields file))) (components_in (header_fields file))) ≡ (Ok tt))
   rest =
       let s = cond-accepted FileShort (ltb (length file) 4) _ accepted-parts.0 in
       let h : List ℕ = header_fields file in
@@ -41,7 +40,7 @@ module _ (file : List ℕ) {s : Size} (e : reading file ≡ Fabric s) where
   accepted-header = header-facts (header_fields file) file rest.0
 
   -- and its records are right
-  pub accepted-records : first_refusal (record_tests s.colours s.channels file (open_table file s.components) s.components) ≡ Accepted
+  pub accepted-records : first_refusal (record_tests s.colours s.channels file (open_table file s.components) s.components) ≡ (Ok tt)
   accepted-records = rw (← accepted-parts.1) rest.1
 
   pub accepted-long : (length file ≡ file_size s.components) × (s.components ≤ most_components)

@@ -1,4 +1,5 @@
 -- The facts of an accepted file, with ends and an order that there are. Assumes nothing.
+use Rattle.std.proofs.Common.{Ok}
 use mathlib.Core.Path.{◌≡◌, ◌∙◌}
 use Prim.Native.Nat.{ℕ, ◌+◌, ◌*◌, ◌/◌, ◌%◌, ◌≤◌, ◌<◌}
 use native.Mathlib.Omega.{arith}
@@ -11,7 +12,6 @@ use Rattle.order.specs.Graph.{has_circle}
 use Rattle.order.proofs.Exists.{listed, sorted-exists}
 use Rattle.refusals.specs.Refusals.{first_refusal}
 use Rattle.refusals.specs.declared.Refusal.TheVariants.{ChannelEnds, Circle}
-use Rattle.refusals.specs.declared.Verdict.TheVariants.{Accepted}
 use Rattle.refusals.proofs.Refusals.{cond-accepted}
 use Rattle.record.specs.Table.{row, open_table}
 use Rattle.record.proofs.Table.{length-rows}
@@ -27,7 +27,6 @@ use Rattle.netlist.specs.declared.Size.{Size}
 use Rattle.netlist.specs.Accepted.{AcceptedFabric}
 use Rattle.reader.specs.File.{header_fields, colours_in, channels_in, components_in, wire_tests}
 use Rattle.reader.specs.Reading.{reading}
-use Rattle.reader.specs.declared.Reading.TheVariants.{Fabric}
 use Rattle.reader.proofs.Tests.{colours-lt, channels-lt}
 use Rattle.reader.proofs.Facts.{mask-byte, good-records, records-accepted}
 use Rattle.reader.proofs.Accepted.{accepted-size, accepted-header, accepted-records}
@@ -53,14 +52,14 @@ ends-exist table e = go (listed (λ s. found (gives table s) e) ends_size)
     go (l, n, at) = (l, record { long = n; at = λ side x h. at (signal_at side x) (below side x h) ∙ gives_at table side x e })
 
 -- the tests of an accepted table's channels
-wires-accepted : (table : List ℕ) (n channels : ℕ) → first_refusal (wire_tests table n channels) ≡ Accepted
+wires-accepted : (table : List ℕ) (n channels : ℕ) → first_refusal (wire_tests table n channels) ≡ (Ok tt)
     → (channels ≤ first_unmatched table n channels) × (has_circle (dependence table n) (2 * channels) ≡ false)
 wires-accepted table n channels e =
     let s = cond-accepted (ChannelEnds (first_unmatched table n channels)) (ltb (first_unmatched table n channels) channels) _ e in
-    (ltb-false (first_unmatched table n channels) channels s.0, (cond-accepted Circle (has_circle (dependence table n) (2 * channels)) Accepted s.1).0)
+    (ltb-false (first_unmatched table n channels) channels s.0, (cond-accepted Circle (has_circle (dependence table n) (2 * channels)) (Ok tt) s.1).0)
 
 -- the facts of every accepted file, with ends and an order that there are
-pub accepted-exists : (file : List ℕ) (s : Size) → reading file ≡ Fabric s → (ends : List ℕ) × (order : List ℕ) × AcceptedFabric (netlist_of s (open_table file s.components)) ends order
+pub accepted-exists : (file : List ℕ) (s : Size) → reading file ≡ Ok s → (ends : List ℕ) × (order : List ℕ) × AcceptedFabric (netlist_of s (open_table file s.components)) ends order
 accepted-exists file s e =
     let C : ℕ = s.colours in
     let M : ℕ = s.channels in

@@ -1,5 +1,7 @@
 -- What a file that passed its tests gives. Assumes nothing.
-use mathlib.Core.Path.{◌≡◌, refl, ap, ap₂, sym, subst, ◌∙◌}
+use Rattle.std.proofs.Common.{Some, None}
+use Rattle.std.proofs.Common.{Result, Ok, Err}
+use mathlib.Core.Path.{◌≡◌, refl, ap, ap₂, sym, ◌∙◌}
 use Prim.Native.Nat.{ℕ, ◌*◌, ◌%◌, ◌≤◌, ◌<◌}
 use native.Mathlib.Nat.{mod-lt}
 use lib.Pow.{pow_pos}
@@ -16,8 +18,6 @@ use Rattle.digits.proofs.Bools.{or-false}
 use Rattle.refusals.specs.Refusals.{first_refusal}
 use Rattle.refusals.specs.declared.Refusal.{Refusal}
 use Rattle.refusals.specs.declared.Refusal.TheVariants.{FileShort, WrongEdition, CountRange, WrongLength, ByteSum, BadField}
-use Rattle.refusals.specs.declared.Verdict.{Verdict}
-use Rattle.refusals.specs.declared.Verdict.TheVariants.{Accepted, Refused}
 use Rattle.refusals.proofs.Refusals.{and_then, refusal-append, cond-accepted}
 use Rattle.record.specs.Record.{record_row, record_pad}
 use Rattle.record.specs.Table.{row, record_at, open_table}
@@ -26,32 +26,32 @@ use Rattle.record.proofs.Table.{length-rows, row_open}
 use Rattle.component.specs.Row.{row_ok}
 use Rattle.component.specs.Limits.{most_channels, most_colours, most_components}
 use Rattle.component.proofs.Facts.{row-parts, kind-le, row-facts}
-use Rattle.wiring.specs.Stages.{Kinds, wired, Wiring}
-use Rattle.wiring.specs.declared.Wired.{Wired}
-use Rattle.wiring.specs.declared.Wired.TheVariants.{Sound, Unmatched, Circular}
-use Rattle.netlist.specs.Netlist.{sized, netlist_of}
+use Rattle.wiring.specs.Stages.{Kinds, wired}
+use Rattle.wiring.specs.Sound.{SoundWires}
+use Rattle.wiring.specs.Refused.{refusal_of}
+use Rattle.wiring.specs.declared.Miswired.{Miswired}
+use Rattle.netlist.specs.Netlist.{netlist_of}
 use Rattle.netlist.specs.declared.Size.{Size}
 use Rattle.netlist.specs.Accepted.{AcceptedFabric}
+use Rattle.search.specs.First.{first}
+use Rattle.search.proofs.Laws.{first_least, none_least}
 use Rattle.reader.specs.File.{header_fields, colours_in, channels_in, components_in, size_in, bad_row, bad_record, first_bad_record, header_tests, record_tests, wire_tests}
-use Rattle.reader.specs.Reading.{read_as, reading, ReadOf}
-use Rattle.reader.specs.Stages.{header_read, wired_verdict, TableRead, Unpacking}
-use Rattle.reader.specs.declared.Reading.{Reading}
-use Rattle.reader.specs.declared.Reading.TheVariants.{Fabric, Rejected}
+use Rattle.reader.specs.Reading.{read_as, reading}
+use Rattle.reader.specs.Stages.{header_read, wired_verdict, Headed}
 use Rattle.reader.proofs.Tests.{wire-tests, wrong_edition, wrong_range, positive, colours-lt, channels-lt}
 
 -- ---- answers, taken apart
-pub read-fabric : (v : Verdict) (t : Size) {s : Size} → read_as v t ≡ Fabric s → (v ≡ Accepted) × (t ≡ s)
-read-fabric Accepted t e = (refl, cc)
-read-fabric (Refused r) t e = let z : ◌≡◌ {A = ℕ} 0 1 = cc in absurd (omega arith)
+pub read-fabric : (v : Result Unit Refusal) (t : Size) {s : Size} → read_as v t ≡ Ok s → (v ≡ (Ok tt)) × (t ≡ s)
+read-fabric (Ok tt) t e = (refl, cc)
+read-fabric (Err r) t e = let z : ◌≡◌ {A = ℕ} 0 1 = cc in absurd (omega arith)
 
-pub read-rejected : (v : Verdict) (t : Size) {r : Refusal} → read_as v t ≡ Rejected r → v ≡ Refused r
-read-rejected Accepted t e = let z : ◌≡◌ {A = ℕ} 0 1 = cc in absurd (omega arith)
-read-rejected (Refused q) t {r} e = let z : q ≡ r = cc in ap Refused z
+pub read-rejected : (v : Result Unit Refusal) (t : Size) {r : Refusal} → read_as v t ≡ Err r → v ≡ Err r
+read-rejected (Ok tt) t e = let z : ◌≡◌ {A = ℕ} 0 1 = cc in absurd (omega arith)
+read-rejected (Err q) t {r} e = let z : q ≡ r = cc in ap Err z
 
-wired-accepted : (w : Wired) → wired_verdict w ≡ Accepted → w ≡ Sound
-wired-accepted Sound e = refl
-wired-accepted (Unmatched x) e = let z : ◌≡◌ {A = ℕ} 0 1 = cc in absurd (omega arith)
-wired-accepted Circular e = let z : ◌≡◌ {A = ℕ} 0 1 = cc in absurd (omega arith)
+wired-accepted : (w : Result Unit Miswired) → wired_verdict w ≡ Ok tt → w ≡ Ok tt
+wired-accepted (Ok _) e = refl
+wired-accepted (Err m) e = let z : ◌≡◌ {A = ℕ} 0 1 = cc in absurd (omega arith)
 
 -- ---- the records
 module _ (colours channels n : ℕ) (file table : List ℕ) where
@@ -64,34 +64,24 @@ module _ (colours channels n : ℕ) (file table : List ℕ) where
   pub table-kinds : n ≤ most_components → length table ≡ row_size * n → n ≤ first_bad_record colours channels file table n → Kinds table n
   table-kinds few l h = record { long = omega arith; few = few; kinds = λ k b. kind-le (row-parts colours channels (row table k) (good-records h k b).1) }
 
-  pub records-accepted : first_refusal (record_tests colours channels file table n) ≡ Accepted → (n ≤ first_bad_record colours channels file table n) × (first_refusal (wire_tests table n channels) ≡ Accepted)
+  pub records-accepted : first_refusal (record_tests colours channels file table n) ≡ (Ok tt) → (n ≤ first_bad_record colours channels file table n) × (first_refusal (wire_tests table n channels) ≡ (Ok tt))
   records-accepted e =
       let s = cond-accepted (BadField (first_bad_record colours channels file table n)) (ltb (first_bad_record colours channels file table n) n) (first_refusal (wire_tests table n channels)) e in
       (ltb-false (first_bad_record colours channels file table n) n s.0, s.1)
 
-  module _ (bad : ℕ) (eb : bad ≡ first_bad_record colours channels file table n) (answer : Reading) (ends order : List ℕ) where
-    pub table-field : bad < n → answer ≡ Rejected (BadField bad) → TableRead (sized colours channels n) file table answer ends order
-    table-field h e = record {
-      is = e ∙ rw (← eb, lt-ltb bad n h);
-      rows = λ a k l. (good-records (records-accepted a).0 k l).1;
-      wires = λ a. absurd (omega (arith, (records-accepted a).0));
-    }
+  -- the three ways through the records and the channels
+  pub field-refused : (bad : ℕ) → bad ≡ first_bad_record colours channels file table n → bad < n → first_refusal (record_tests colours channels file table n) ≡ Err (BadField bad)
+  field-refused bad eb h = rw (← eb, lt-ltb bad n h)
 
-    pub table-wired : n ≤ bad → (found : Wired) (v : Verdict) → Wiring table n channels found ends order → v ≡ wired_verdict found → answer ≡ read_as v (sized colours channels n)
-        → TableRead (sized colours channels n) file table answer ends order
-    table-wired h found v w ev ea =
-        let passed : first_refusal (record_tests colours channels file table n) ≡ first_refusal (wire_tests table n channels) = rw (← eb, le-ltb bad n h) in
-        record {
-          is = ea ∙ ap (λ (x : Verdict). read_as x (sized colours channels n)) (ev ∙ ap wired_verdict w.is ∙ wire-tests table n channels ∙ sym passed);
-          rows = λ a k l. (good-records (records-accepted a).0 k l).1;
-          wires = λ a. w.sound (wired-accepted (wired table n channels) (wire-tests table n channels ∙ (records-accepted a).1));
-        }
+  module _ (bad : ℕ) (eb : bad ≡ first_bad_record colours channels file table n) (h : n ≤ bad) where
+    pub table-wired : wired_verdict (wired table n channels) ≡ first_refusal (record_tests colours channels file table n)
+    table-wired = wire-tests table n channels ∙ sym (rw (← eb, le-ltb bad n h))
 
-pub rows_long : (s : Size) (file table : List ℕ) → Unpacking s file table → length table ≡ row_size * s.components
-rows_long s file table u = ap length u.is ∙ length-rows file s.components
+    pub wires-refused : {m : Miswired} → Err m ≡ wired table n channels → first_refusal (record_tests colours channels file table n) ≡ Err (refusal_of m)
+    wires-refused e = sym (ap wired_verdict e ∙ table-wired)
 
-pub rows-room : (s : Size) (file table : List ℕ) → Unpacking s file table → row_size * s.components ≤ length table
-rows-room s file table u = omega (arith, rows_long s file table u)
+    pub wires-passed : Ok tt ≡ wired table n channels → first_refusal (record_tests colours channels file table n) ≡ Ok tt
+    wires-passed e = sym (ap wired_verdict e ∙ table-wired)
 
 -- ---- the header
 pub record HeaderFacts (h file : List ℕ) : Type 0 where
@@ -102,12 +92,12 @@ pub record HeaderFacts (h file : List ℕ) : Type 0 where
   pub sums : sum file % 256 ≡ 0
   pub edition : (get_or h 0 0 ≡ 1) × (get_or h 2 0 ≡ 0)
 
-pub header-facts : (h file : List ℕ) → first_refusal (header_tests h file) ≡ Accepted → HeaderFacts h file
+pub header-facts : (h file : List ℕ) → first_refusal (header_tests h file) ≡ (Ok tt) → HeaderFacts h file
 header-facts h file e =
     let s₁ = cond-accepted WrongEdition (wrong_edition h) _ e in
     let s₂ = cond-accepted CountRange (wrong_range h) _ s₁.1 in
     let s₃ = cond-accepted WrongLength (not (eqb (length file) (file_size (components_in h)))) _ s₂.1 in
-    let s₄ = cond-accepted ByteSum (not (eqb (sum file % 256) 0)) Accepted s₃.1 in
+    let s₄ = cond-accepted ByteSum (not (eqb (sum file % 256) 0)) (Ok tt) s₃.1 in
     let r = or-false (eqb (get_or h 3 0) 0 || ltb most_components (get_or h 3 0)) (eqb (get_or h 4 0) 0) s₂.0 in
     let q = or-false (eqb (get_or h 3 0) 0) (ltb most_components (get_or h 3 0)) r.0 in
     let d = or-false (not (eqb (get_or h 0 0) 1)) (not (eqb (get_or h 2 0) 0)) s₁.0 in
@@ -127,15 +117,15 @@ mask-byte file n k h = rw (row_open file n k h) (mod-lt _ (pow_pos 8))
 
 -- ---- the whole file
 -- what the header's fields come to
-pub headed : (file : List ℕ) {h : List ℕ} {r x : Reading} → h ≡ header_fields file → r ≡ header_read h file → r ≡ x → header_read (header_fields file) file ≡ x
+pub headed : (file : List ℕ) {h : List ℕ} {r x : Result Size Refusal} → h ≡ header_fields file → r ≡ header_read h file → r ≡ x → header_read (header_fields file) file ≡ x
 headed f eh er ex = ap (λ (h : List ℕ). header_read h f) (sym eh) ∙ sym er ∙ ex
 
 module _ (file : List ℕ) where
   -- the tests of the records, with a header's numbers
-  abbrev records_of : Size → Verdict
+  abbrev records_of : Size → Result Unit Refusal
   records_of s = first_refusal (record_tests s.colours s.channels file (open_table file s.components) s.components)
 
-  pub is-short : length file < 4 → reading file ≡ Rejected FileShort
+  pub is-short : length file < 4 → reading file ≡ Err FileShort
   unfolding reading
   is-short l = rw (lt-ltb (length file) 4 l)
 
@@ -145,21 +135,21 @@ module _ (file : List ℕ) where
     reading-is =
         let h : List ℕ = header_fields file in
         let rest = record_tests (colours_in h) (channels_in h) file (open_table file (components_in h)) (components_in h) in
-        ap (λ (v : Verdict). read_as v (size_in h))
-        (ap (λ (b : Bool). cond b (Refused FileShort) (first_refusal (header_tests h file ++ rest))) (le-ltb (length file) 4 l) ∙ refusal-append (header_tests h file) rest)
+        ap (λ (v : Result Unit Refusal). read_as v (size_in h))
+        (ap (λ (b : Bool). cond b (Err FileShort) (first_refusal (header_tests h file ++ rest))) (le-ltb (length file) 4 l) ∙ refusal-append (header_tests h file) rest)
 
-    pub is-rejected : (r : Refusal) → header_read (header_fields file) file ≡ Rejected r → reading file ≡ Rejected r
+    pub is-rejected : (r : Refusal) → header_read (header_fields file) file ≡ Err r → reading file ≡ Err r
     unfolding header_read
     is-rejected r e = reading-is ∙ rw (read-rejected (first_refusal (header_tests (header_fields file) file)) _ e)
 
     -- a file whose header is right
-    module _ (s : Size) (e : header_read (header_fields file) file ≡ Fabric s) where
-      head : (first_refusal (header_tests (header_fields file) file) ≡ Accepted) × (size_in (header_fields file) ≡ s)
+    module _ (s : Size) (e : header_read (header_fields file) file ≡ Ok s) where
+      head : (first_refusal (header_tests (header_fields file) file) ≡ (Ok tt)) × (size_in (header_fields file) ≡ s)
       unfolding header_read
       head = read-fabric (first_refusal (header_tests (header_fields file) file)) _ e
 
       pub reading-rest : reading file ≡ read_as (records_of s) s
-      reading-rest = reading-is ∙ ap₂ (λ (v : Verdict) (t : Size). read_as (and_then v (records_of t)) t) head.0 head.1
+      reading-rest = reading-is ∙ ap₂ (λ (v : Result Unit Refusal) (t : Size). read_as (and_then v (records_of t)) t) head.0 head.1
 
       pub header-few : (s.components ≤ most_components) × (s.colours ≤ most_colours) × (s.channels ≤ most_channels) × (length file ≡ file_size s.components) × (0 < s.colours) × (0 < s.channels) × (0 < s.components)
       header-few =
@@ -171,44 +161,66 @@ module _ (file : List ℕ) where
           let cb = channels-lt file in
           (omega (arith, f.few_rows), omega arith, omega arith, omega (arith, f.long), omega arith, omega (arith, f.some_channels), omega (arith, f.some_rows))
 
-      pub read_done : (before after table : List ℕ) (answer : Reading) (ends order : List ℕ) → after ≡ open_table file s.components ++ drop (row_size * s.components) before
-          → table ≡ open_table file s.components → TableRead s file table answer ends order → ReadOf file before after answer ends order
-      read_done before after table answer ends order ea et t = record {
-        is = t'.is ∙ sym reading-rest;
-        table = λ z f. subst (λ (x : Size). after ≡ open_table file x.components ++ drop (row_size * x.components) before) (read-fabric (records_of s) s (sym reading-rest ∙ f)).1 ea;
-        facts = λ z f.
-            let q = read-fabric (records_of s) s (sym reading-rest ∙ f) in
-            subst (λ (x : Size). AcceptedFabric (netlist_of x (open_table file x.components)) ends order) q.1 (accepted q.0);
-      }
-        where
-          t' : TableRead s file (open_table file s.components) answer ends order
-          t' = subst (λ (l : List ℕ). TableRead s file l answer ends order) et t
+      pub headed-facts : Headed file s
+      headed-facts = let w = header-few in record { enough = l; is = e; few = w.0; few_colours = w.1; few_channels = w.2; long = w.3 }
 
-          accepted : records_of s ≡ Accepted → AcceptedFabric (netlist_of s (open_table file s.components)) ends order
-          accepted a =
-              let w = header-few in
-              record {
-                some_colours = w.4;
-                few_colours = w.1;
-                some_channels = w.5;
-                few_channels = w.2;
-                some_rows = w.6;
-                few_rows = w.0;
-                long = length-rows file s.components;
-                rows = λ k h. row-facts s.colours s.channels (row (open_table file s.components) k) w.4 w.1 w.5 (mask-byte file s.components k h) (t'.rows a k h);
-                wires = t'.wires a;
-              }
+      -- what the tests behind the header come to is what reading comes to
+      pub rest-refused : {r : Refusal} → records_of s ≡ Err r → Err r ≡ reading file
+      rest-refused r = sym (reading-rest ∙ rw r)
 
--- a refused file
-pub read-refused : (file before after : List ℕ) (answer : Reading) (ends order : List ℕ) (r : Refusal) → reading file ≡ Rejected r → answer ≡ Rejected r → ReadOf file before after answer ends order
-read-refused file before after answer ends order r e a = record {
-  is = a ∙ sym e;
-  table = λ s f. absurd (apart (sym e ∙ f));
-  facts = λ s f. absurd (apart (sym e ∙ f));
-}
-  where
-    apart : {s : Size} → Rejected r ≡ Fabric s → ⊥
-    apart q = let z : ◌≡◌ {A = ℕ} 0 1 = cc in absurd (omega arith)
+      pub rest-passed : records_of s ≡ Ok tt → Ok s ≡ reading file
+      rest-passed r = sym (reading-rest ∙ rw r)
+
+      -- and then all that an accepted fabric gives holds
+      pub fabric-facts : (ends order : List ℕ) → s.components ≤ first_bad_record s.colours s.channels file (open_table file s.components) s.components
+          → SoundWires (open_table file s.components) s.components s.channels ends order → AcceptedFabric (netlist_of s (open_table file s.components)) ends order
+      fabric-facts ends order a wires =
+          let w = header-few in
+          record {
+            some_colours = w.4;
+            few_colours = w.1;
+            some_channels = w.5;
+            few_channels = w.2;
+            some_rows = w.6;
+            few_rows = w.0;
+            long = length-rows file s.components;
+            rows = λ k h. row-facts s.colours s.channels (row (open_table file s.components) k) w.4 w.1 w.5 (mask-byte file s.components k h) (good-records s.colours s.channels s.components file (open_table file s.components) a k h).1;
+            wires = wires;
+          }
+
+-- ---- the ways through a file whose header is right, with the rows that were laid down
+module _ (file : List ℕ) {s : Size} (h : Headed file s) {t : List ℕ} (front : t ≡ open_table file s.components) where
+  abbrev pub bad : ℕ → Bool
+  bad = bad_record s.colours s.channels file t
+
+  same : first_bad_record s.colours s.channels file t s.components ≡ first_bad_record s.colours s.channels file (open_table file s.components) s.components
+  same = ap (λ u. first_bad_record s.colours s.channels file u s.components) front
+
+  pub read-field : (k : ℕ) → first bad s.components ≡ Some k → Err (BadField k) ≡ reading file
+  unfolding first_bad_record
+  read-field k e =
+      let w = first_least bad s.components k e in
+      rest-refused file h.enough s h.is (field-refused s.colours s.channels s.components file (open_table file s.components) k (sym w.1 ∙ same) w.0)
+
+  module _ (none : first bad s.components ≡ None) where
+    all : s.components ≤ first_bad_record s.colours s.channels file t s.components
+    unfolding first_bad_record
+    all = omega (arith, none_least bad s.components none)
+
+    all-open : s.components ≤ first_bad_record s.colours s.channels file (open_table file s.components) s.components
+    all-open = rw same at all
+
+    pub read-kinds : Kinds t s.components
+    read-kinds = table-kinds s.colours s.channels s.components file t h.few (ap length front ∙ length-rows file s.components) all
+
+    pub read-miswired : {m : Miswired} → Err m ≡ wired t s.components s.channels → Err (refusal_of m) ≡ reading file
+    read-miswired e = rest-refused file h.enough s h.is (wires-refused s.colours s.channels s.components file (open_table file s.components) _ refl all-open (rw front at e))
+
+    pub read-passed : Ok tt ≡ wired t s.components s.channels → Ok s ≡ reading file
+    read-passed e = rest-passed file h.enough s h.is (wires-passed s.colours s.channels s.components file (open_table file s.components) _ refl all-open (rw front at e))
+
+    pub read-facts : {ends order : List ℕ} → SoundWires t s.components s.channels ends order → AcceptedFabric (netlist_of s t) ends order
+    read-facts w = rw front (fabric-facts file h.enough s h.is _ _ all-open (rw front at w))
 
 -- the rows stand in front
 pub rows-front : (file before after : List ℕ) (N : ℕ) → after ≡ open_table file N ++ drop (row_size * N) before → take (row_size * N) after ≡ open_table file N

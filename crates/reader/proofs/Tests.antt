@@ -1,4 +1,5 @@
 -- What each way through the header and the channels shows. Assumes nothing.
+use Rattle.std.proofs.Common.{Ok, Err}
 use mathlib.Core.Path.{◌≡◌, refl}
 use Prim.Native.Nat.{ℕ, ◌*◌, ◌%◌, ◌≤◌, ◌<◌}
 use native.Mathlib.Nat.{mod-lt}
@@ -14,22 +15,20 @@ use Rattle.digits.proofs.Bools.{or-false}
 use Rattle.order.specs.Graph.{has_circle}
 use Rattle.refusals.specs.Refusals.{first_refusal}
 use Rattle.refusals.specs.declared.Refusal.TheVariants.{WrongEdition, CountRange, WrongLength, ByteSum, ChannelEnds, Circle}
-use Rattle.refusals.specs.declared.Verdict.TheVariants.{Accepted, Refused}
 use Rattle.record.specs.Sizes.{file_size}
 use Rattle.component.specs.Limits.{most_components}
 use Rattle.wiring.specs.Ends.{first_unmatched}
 use Rattle.wiring.specs.Signals.{dependence}
 use Rattle.wiring.specs.Stages.{wired}
-use Rattle.wiring.specs.declared.Wired.TheVariants.{Sound, Unmatched, Circular}
+use Rattle.wiring.specs.declared.Miswired.TheVariants.{Unmatched, Circular}
 use Rattle.reader.specs.File.{header_fields, size_in, wire_tests}
 use Rattle.reader.specs.Stages.{header_read, wired_verdict}
-use Rattle.reader.specs.declared.Reading.TheVariants.{Fabric, Rejected}
 
 pub wire-tests : (table : List ℕ) (n channels : ℕ) → wired_verdict (wired table n channels) ≡ first_refusal (wire_tests table n channels)
 unfolding wired
 wire-tests table n channels = go (ltb (first_unmatched table n channels) channels) (has_circle (dependence table n) (2 * channels))
   where
-    go : (a b : Bool) → wired_verdict (cond a (Unmatched (first_unmatched table n channels)) (cond b Circular Sound)) ≡ cond a (Refused (ChannelEnds (first_unmatched table n channels))) (cond b (Refused Circle) Accepted)
+    go : (a b : Bool) → wired_verdict (cond a (Err (Unmatched (first_unmatched table n channels))) (cond b (Err Circular) (Ok tt))) ≡ cond a (Err (ChannelEnds (first_unmatched table n channels))) (cond b (Err Circle) (Ok tt))
     go true b = refl
     go false true = refl
     go false false = refl
@@ -42,25 +41,25 @@ abbrev pub wrong_range : List ℕ → Bool
 wrong_range h = eqb (get_or h 3 0) 0 || ltb most_components (get_or h 3 0) || eqb (get_or h 4 0) 0
 
 module _ (h file : List ℕ) where
-  pub is-edition : wrong_edition h ≡ true → Rejected WrongEdition ≡ header_read h file
+  pub is-edition : wrong_edition h ≡ true → Err WrongEdition ≡ header_read h file
   unfolding header_read
   is-edition e = rw e
 
-  pub is-range : wrong_edition h ≡ false → wrong_range h ≡ true → Rejected CountRange ≡ header_read h file
+  pub is-range : wrong_edition h ≡ false → wrong_range h ≡ true → Err CountRange ≡ header_read h file
   unfolding header_read
   is-range e₁ e₂ = rw (e₁, e₂)
 
   module _ (e₁ : wrong_edition h ≡ false) (e₂ : wrong_range h ≡ false) where
-    pub is-length : (length file ≡ file_size (get_or h 3 0) → ⊥) → Rejected WrongLength ≡ header_read h file
+    pub is-length : (length file ≡ file_size (get_or h 3 0) → ⊥) → Err WrongLength ≡ header_read h file
     unfolding header_read
     is-length n = rw (e₁, e₂, ne_eqb (length file) (file_size (get_or h 3 0)) n)
 
     module _ (l : length file ≡ file_size (get_or h 3 0)) (s : ℕ) (es : s ≡ sum file % 256) where
-      pub is_sum : (s ≡ 0 → ⊥) → Rejected ByteSum ≡ header_read h file
+      pub is_sum : (s ≡ 0 → ⊥) → Err ByteSum ≡ header_read h file
       unfolding header_read
       is_sum n = rw (e₁, e₂, eq-eqb (length file) (file_size (get_or h 3 0)) l, ← es, ne_eqb s 0 n)
 
-      pub is_right : s ≡ 0 → Fabric (size_in h) ≡ header_read h file
+      pub is_right : s ≡ 0 → Ok (size_in h) ≡ header_read h file
       unfolding header_read
       is_right z = rw (e₁, e₂, eq-eqb (length file) (file_size (get_or h 3 0)) l, ← es, eq-eqb s 0 z)
 

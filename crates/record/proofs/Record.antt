@@ -1,12 +1,14 @@
 -- A record in two words; bytes and fields of a record turn into each other exactly. Assumes nothing.
 use mathlib.Core.Path.{◌≡◌, ap, sym, ◌∙◌}
 use Prim.Native.Nat.{ℕ, ◌+◌, ◌*◌, ◌/◌, ◌%◌, ◌^◌, ◌≤◌, ◌<◌}
+use native.Mathlib.Nat.{lt_of_lt_of_le, zero-add}
+use Rattle.std.proofs.Common.{pow_mono}
 use native.Mathlib.Omega.{arith}
 use mathlib.Core.List.{List, [], ◌∷◌, ◌++◌}
-use lib.ListN.{length, get_or, take, drop, length-drop}
+use lib.ListN.{replicate, length, get_or, take, drop, length-drop}
 use lib.Seq.{length-take-le, get_or-take, get_or-drop}
 use Rattle.digits.specs.Packed.{joined, fields, Fit, bytes}
-use Rattle.digits.proofs.Packed.{joined-lt, joined-append, fields-low, fields-append, joined-fields, fields-joined, joined-part, fit-replicate, length_fields}
+use Rattle.digits.proofs.Packed.{joined-lt, joined-more, bits-replicate, joined-append, fields-low, fields-append, joined-fields, fields-joined, joined-part, fit-replicate, length_fields}
 use Rattle.record.specs.Record.{upper_widths, lower_widths, row_widths, record_row, record_pad, record_bytes}
 use Rattle.record.specs.Sizes.{record_size, row_size}
 
@@ -18,30 +20,27 @@ pub length-record : (f : List ℕ) → length (record_bytes f) ≡ record_size
 unfolding record_bytes
 length-record f = length_fields (bytes record_size) (joined row_widths f 0 * 2 ^ 6)
 
--- ---- reading: the upper 51 and the lower 47 bits of the row's 98, from the words of 7 and of 6 bytes
-module _ (n u v : ℕ) (e : n ≡ u * 281474976710656 + v) (h : v < 281474976710656) where
-  upper-cut : u / 32 ≡ n / 64 / 140737488355328
-  upper-cut = omega arith
+-- ---- reading: the number of a record, from the words of 7 and of 6 bytes
+pub record_words : (s : List ℕ) (at u v : ℕ) → u ≡ joined (bytes 7) s at → v ≡ joined (bytes 6) s (at + 7)
+    → (joined (bytes record_size) s at ≡ u * 281474976710656 + v) × (v < 281474976710656)
+record_words s at u v eu ev = (joined-append (bytes 7) (bytes 6) s at ∙ rw (eu, ev), rw ev (joined-lt (bytes 6) s (at + 7)))
 
-  lower-cut : (u % 32 * 281474976710656 + v) / 64 ≡ n / 64 % 140737488355328
-  lower-cut = omega arith
-
-pub record-cut : (s : List ℕ) (at u v : ℕ) → u ≡ joined (bytes 7) s at → v ≡ joined (bytes 6) s (at + 7)
-    → fields upper_widths (u / 32) ++ fields lower_widths ((u % 32 * 281474976710656 + v) / 64) ≡ record_row s at
+-- the row, from the upper 51 bits and the lower 47
+pub record_cut : (s : List ℕ) (at x y : ℕ) → x ≡ joined (bytes record_size) s at / 64 / 140737488355328
+    → y % 140737488355328 ≡ joined (bytes record_size) s at / 64 % 140737488355328
+    → fields upper_widths x ++ fields lower_widths y ≡ record_row s at
 unfolding record_row
-record-cut s at u v eu ev =
-    let n : ℕ = joined (bytes record_size) s at in
-    let v< : v < 2 ^ 48 = rw ev (joined-lt (bytes 6) s (at + 7)) in
-    let e : n ≡ u * 2 ^ 48 + v = joined-append (bytes 7) (bytes 6) s at ∙ rw (eu, ev) in
-    rw (upper-cut n u v e v<, lower-cut n u v e v<, fields-low lower_widths (n / 64), ← fields-append upper_widths lower_widths (n / 64))
+record_cut s at x y ex ey =
+    let n : ℕ = joined (bytes record_size) s at / 64 in
+    rw (ex, ← fields-low lower_widths y, ey, fields-low lower_widths n, ← fields-append upper_widths lower_widths n)
 
 -- the last six bits stand in the last byte
 last-bits : (n u b : ℕ) → n ≡ u * 256 + b % 256 → b < 256 → b % 64 ≡ n % 64
 last-bits n u b e h = omega arith
 
-pub record-pad : (s : List ℕ) (at : ℕ) → get_or s (at + 12) 0 < 256 → get_or s (at + 12) 0 % 64 ≡ record_pad s at
+pub last_six : (s : List ℕ) (at : ℕ) → get_or s (at + 12) 0 < 256 → get_or s (at + 12) 0 % 64 ≡ record_pad s at
 unfolding record_pad
-record-pad s at h = last-bits (joined (bytes record_size) s at) (joined (bytes 12) s at) (get_or s (at + 12) 0) (joined-append (bytes 12) (8 ∷ []) s at ∙ omega arith) h
+last_six s at h = last-bits (joined (bytes record_size) s at) (joined (bytes 12) s at) (get_or s (at + 12) 0) (joined-append (bytes 12) (8 ∷ []) s at ∙ omega arith) h
 
 -- ---- writing: 7 and 6 bytes, from the numbers of the upper and of the lower fields
 module _ (n x y : ℕ) (e : n ≡ (x * 140737488355328 + y) * 64) where
@@ -51,16 +50,20 @@ module _ (n x y : ℕ) (e : n ≡ (x * 140737488355328 + y) * 64) where
   lower-join : y * 64 % 281474976710656 ≡ n % 281474976710656
   lower-join = omega arith
 
-pub record-join : (f : List ℕ) (x y : ℕ) → x ≡ joined upper_widths f 0 → y ≡ joined lower_widths f 12
+pub record_join : (f : List ℕ) (x y : ℕ) → x ≡ joined upper_widths f 0 → y ≡ joined lower_widths f 12
     → fields (bytes 7) (x * 32 + y / 4398046511104) ++ fields (bytes 6) (y * 64) ≡ record_bytes f
 unfolding record_bytes
-record-join f x y ex ey =
+record_join f x y ex ey =
     let n : ℕ = joined row_widths f 0 * 64 in
     let e : n ≡ (x * 2 ^ 47 + y) * 64 = ap (λ (k : ℕ). k * 64) (joined-append upper_widths lower_widths f 0 ∙ rw (ex, ey)) in
     rw (upper-join n x y e, ← fields-low (bytes 6) (y * 64), lower-join n x y e, fields-low (bytes 6) n, ← fields-append (bytes 7) (bytes 6) n)
 
-pub upper-word-fits : (x y : ℕ) → x < 2 ^ 51 → y < 2 ^ 47 → x * 32 + y / 4398046511104 < 2 ^ 64
-upper-word-fits x y hx hy = omega arith
+-- the number of a map's entries, and a turn of the loop that makes it
+pub map_fits : (s : List ℕ) (i : ℕ) → i ≤ 8 → joined (replicate i 3) s 0 < 16777216
+map_fits s i h = lt_of_lt_of_le (rw (← bits-replicate i 3) (joined-lt (replicate i 3) s 0)) (pow_mono {i = i * 3} {j = 24} (omega arith))
+
+pub map_more : (s : List ℕ) (i : ℕ) → joined (replicate i 3) s 0 * 8 + get_or s i 0 % 8 ≡ joined (replicate (i + 1) 3) s 0
+map_more s i = rw (joined-more 3 i s 0, zero-add)
 
 -- ---- both round trips
 shift-lt : (j : ℕ) → j < 2 ^ 98 → j * 64 < 2 ^ 104

@@ -1,119 +1,55 @@
--- A block's result, entry by entry and byte by byte. Assumes nothing.
+-- A block's result, entry by entry, in memory of either kind. Assumes nothing.
 use mathlib.Core.Path.{◌≡◌, refl, sym, ap, ap₂, ◌∙◌}
-use mathlib.Core.Bool.{Bool, cond}
 use mathlib.Core.List.{List, [], ◌∷◌, ◌++◌, append_assoc}
-use Prim.Native.Nat.{ℕ, suc, ◌+◌, ◌*◌, ◌-◌, ◌/◌, ◌%◌, ◌^◌, ◌≤◌, ◌<◌}
-use native.Mathlib.Nat.{zero-div}
+use Prim.Native.Nat.{ℕ, ◌+◌, ◌*◌, ◌/◌, ◌≤◌, ◌<◌}
+use Rattle.std.proofs.lemmas.Nat.{le-div}
 use native.Mathlib.Omega.{arith}
-use lib.ListN.{length, get_or, set, take, drop}
-use lib.Seq.{length-take-le, drop-drop, drop_at, get_or-append-add}
+use lib.ListN.{length, get_or, take, drop}
+use lib.Seq.{drop-drop, length-take-le, get_or-append-add}
+use Rattle.std.proofs.lemmas.List.{append-nil}
+use Rattle.std.proofs.Common.{drop_of_length-le}
+use Rattle.std.specs.Result.{is_err, result_unwrap_or}
+use mathlib.Core.Bool.{true, false, true≢false}
 use lib.IntN.{ℤ, pos}
-use mir.Syntax.{w64}
-use mir.Val.{to_z, SFits}
-use mir.ValLaws.{to_z_pos}
-use borrow.Author.Tests.{le-ltb}
+use Rattle.std.proofs.Common.{Result, Ok, Err}
 use Rattle.digits.specs.UpTo.{up_to}
-use Rattle.digits.proofs.UpTo.{length-up_to, up_to-at, up_to-cong, up_to-append, filled_none}
-use Rattle.refusals.specs.Refusals.{number_of, place_of}
+use Rattle.digits.proofs.UpTo.{length-up_to, up_to-at, filled_is}
+use Rattle.judgement.specs.Memory.{bytes_of}
+use Rattle.judgement.specs.MemoryLaws.{bytes_up_to}
+use Rattle.refusals.specs.Refusals.{outcome_number, outcome_place}
 use Rattle.refusals.specs.declared.Refusal.{Refusal}
-use Rattle.refusals.specs.declared.Verdict.{Verdict}
-use Rattle.refusals.specs.declared.Verdict.TheVariants.{Accepted, Refused}
 use Rattle.component.specs.Limits.{most_channels}
-use Rattle.netlist.specs.Netlist.{Netlist, netlist_of}
-use Rattle.netlist.specs.declared.Size.{Size}
+use Rattle.netlist.specs.Netlist.{Netlist}
 use Rattle.flows.specs.Terms.{most_terms}
-use Rattle.flows.specs.Verdict.{judged, constant_by, table_by, byte_of, weight_byte, bytes_by}
+use Rattle.flows.specs.Flows.{entry, constant}
+use Rattle.flows.specs.Verdict.{judged, giving, constant_by, weight_byte}
 use Rattle.flows.proofs.Verdict.{judged-by}
-use Rattle.judgement.specs.Judged.{bytes_where, laid}
-use Rattle.judgement.proofs.Bytes.{entry_more}
-use Rattle.result.proofs.Parts.{part-is, part-back}
+use Rattle.judgement.specs.Judged.{written_by}
 use Rattle.result.specs.Result.{result_size, entry_by, block_result, result_bytes, over}
 
 -- ---- a block's number and place, so small that they fit
-pub record Small (v : Verdict) : Type 0 where
-  pub number : number_of v ≤ most_terms
-  pub place : place_of v ≤ most_terms
+pub record Small (v : Result Unit Refusal) : Type 0 where
+  pub number : outcome_number v ≤ most_terms
+  pub place : outcome_place v ≤ most_terms
 
 pub judged-small : (f : Netlist) (p : List ℕ) → f.channels ≤ most_channels → length p ≤ 4 * most_terms → Small (judged f p)
 judged-small f p few short =
     judged-by f p Small (λ e. record { number = omega arith; place = omega arith }) (λ k l. record { number = omega arith; place = omega arith })
     (λ v l. record { number = omega arith; place = omega arith }) (record { number = omega arith; place = omega arith }) (record { number = omega arith; place = omega arith })
 
--- as signed numbers they are themselves
-module _ {v w : Verdict} (s : Small w) (e : v ≡ w) {n : ℕ} where
-  pub number-signed : n ≡ number_of v → to_z w64 n ≡ pos (number_of w)
-  number-signed en =
-      let m : n ≡ number_of w = en ∙ ap number_of e in
-      to_z_pos w64 n (omega (arith, s.number)) ∙ ap pos m
+-- of an answer, as of the verdict that it stands for
+pub answer-number : (v : Result Unit Refusal) (f : Netlist) (p : List ℕ) → outcome_number (giving v (constant f p)) ≡ outcome_number v
+answer-number (Ok tt) f p = refl
+answer-number (Err r) f p = refl
 
-  pub place-signed : n ≡ place_of v → to_z w64 n ≡ pos (place_of w)
-  place-signed en =
-      let m : n ≡ place_of w = en ∙ ap place_of e in
-      to_z_pos w64 n (omega (arith, s.place)) ∙ ap pos m
-
-  pub place-fits : n ≡ place_of v → SFits w64 (pos n)
-  place-fits en = record { sfits = omega (arith, en ∙ ap place_of e, s.place) }
-
--- ---- the weights, or zeros: what a judgement says that had room, t the memory after it
-module _ (f : Netlist) (p : List ℕ) {w : Verdict} (e : w ≡ judged f p) where
-  abbrev weights : ℕ → ℤ
-  weights = entry_by (judged f p) f p
-
-  abbrev Same : Verdict → ℤ → Type 0
-  Same v k = (v ≡ judged f p) × (k ≡ constant_by (judged f p) f p)
-
-  same : {v : Verdict} {k : ℤ} → v ≡ w → k ≡ constant_by w f p → Same v k
-  same ev ek = (ev ∙ e, ek ∙ ap (λ (x : Verdict). constant_by x f p) e)
-
-  module _ (l : List ℤ) {v : Verdict} {k : ℤ} {t : List ℤ} (j : (v ≡ w) × (k ≡ constant_by w f p) × (t ≡ table_by w f p l)) where
-    pub entries-accepted : v ≡ Accepted → (v ≡ judged f p) × (k ≡ constant_by (judged f p) f p) × (t ≡ up_to (8 * f.components) weights ++ drop (8 * f.components) l)
-    unfolding table_by entry_by
-    entries-accepted ok = (
-      j.0 ∙ e,
-      (same j.0 j.1).1,
-      j.2 ∙ ap (λ (x : Verdict). table_by x f p l) (sym j.0 ∙ ok) ∙ ap (λ (x : Verdict). up_to (8 * f.components) (entry_by x f p) ++ drop (8 * f.components) l) (sym ok ∙ j.0 ∙ e),
-    )
-
-    pub entries-refused : {r : Refusal} {u : List ℤ} → v ≡ Refused r → u ≡ up_to (8 * f.components) (λ i. pos 0) ++ drop (8 * f.components) t
-        → (v ≡ judged f p) × (k ≡ constant_by (judged f p) f p) × (u ≡ up_to (8 * f.components) weights ++ drop (8 * f.components) l)
-    unfolding table_by entry_by
-    entries-refused {r} bad eu = (
-      j.0 ∙ e,
-      (same j.0 j.1).1,
-      eu ∙ ap (λ (x : List ℤ). up_to (8 * f.components) (λ i. pos 0) ++ drop (8 * f.components) x) (j.2 ∙ ap (λ (x : Verdict). table_by x f p l) (sym j.0 ∙ bad))
-          ∙ ap (λ (x : Verdict). up_to (8 * f.components) (entry_by x f p) ++ drop (8 * f.components) l) (sym bad ∙ j.0 ∙ e),
-    )
-
-  module _ (l : List ℕ) {v : Verdict} {k : ℤ} {t : List ℕ} (room : 8 * (8 * f.components) ≤ length l) (j : (v ≡ w) × (k ≡ constant_by w f p) × (t ≡ bytes_where w f p l)) where
-    there : {x : Verdict} → v ≡ x → t ≡ bytes_by x f p l
-    unfolding bytes_where
-    there {x} ex = j.2 ∙ ap (λ (y : Verdict). bytes_where y f p l) (sym j.0 ∙ ex) ∙ ap (λ (b : Bool). cond b l (bytes_by x f p l)) (le-ltb (length l) (8 * (8 * f.components)) room)
-
-    pub bytes-accepted : v ≡ Accepted → (v ≡ judged f p) × (k ≡ constant_by (judged f p) f p) × (t ≡ up_to (8 * (8 * f.components)) (weight_byte weights) ++ drop (8 * (8 * f.components)) l)
-    unfolding bytes_by entry_by
-    bytes-accepted ok = (
-      j.0 ∙ e,
-      (same j.0 j.1).1,
-      there ok ∙ ap (λ (x : Verdict). up_to (8 * (8 * f.components)) (weight_byte (entry_by x f p)) ++ drop (8 * (8 * f.components)) l) (sym ok ∙ j.0 ∙ e),
-    )
-
-    pub bytes-refused : {r : Refusal} {u : List ℕ} → v ≡ Refused r → u ≡ up_to (8 * (8 * f.components)) (λ i. 0) ++ drop (8 * (8 * f.components)) t
-        → (v ≡ judged f p) × (k ≡ constant_by (judged f p) f p) × (u ≡ up_to (8 * (8 * f.components)) (weight_byte weights) ++ drop (8 * (8 * f.components)) l)
-    unfolding bytes_by entry_by
-    bytes-refused {r} bad eu = (
-      j.0 ∙ e,
-      (same j.0 j.1).1,
-      eu
-          ∙ ap₂ (λ (a b : List ℕ). a ++ drop (8 * (8 * f.components)) b)
-          (up_to-cong (8 * (8 * f.components)) (λ i. 0) (weight_byte (entry_by (Refused r) f p)) (λ i m. sym (ap (λ (x : ℕ). x % 256) (zero-div (2 ^ (8 * (i % 8)))))))
-          (there bad)
-          ∙ ap (λ (x : Verdict). up_to (8 * (8 * f.components)) (weight_byte (entry_by x f p)) ++ drop (8 * (8 * f.components)) l) (sym bad ∙ j.0 ∙ e),
-    )
+pub answer-place : (v : Result Unit Refusal) (f : Netlist) (p : List ℕ) → outcome_place (giving v (constant f p)) ≡ outcome_place v
+answer-place (Ok tt) f p = refl
+answer-place (Err r) f p = refl
 
 -- ---- the whole result
-pub size_is : (size : Size) (t : List ℕ) → result_size (netlist_of size t) ≡ 3 + 8 * size.components
+pub size_is : (f : Netlist) → result_size f ≡ 3 + 8 * f.components
 unfolding result_size
-size_is size t = refl
+size_is f = refl
 
 module _ (f : Netlist) (p : List ℕ) where
   pub length-result : length (block_result f p) ≡ result_size f
@@ -131,58 +67,66 @@ module _ (f : Netlist) (p : List ℕ) where
   pub weight-at : (u : ℕ) → u < 8 * f.components → get_or (block_result f p) (3 + u) (pos 0) ≡ entry_by (judged f p) f p u
   unfolding block_result
   weight-at u l =
-      get_or-append-add (pos (number_of (judged f p)) ∷ pos (place_of (judged f p)) ∷ constant_by (judged f p) f p ∷ []) rest u (pos 0) ∙ up_to-at (entry_by (judged f p) f p) (pos 0) (8 * f.components) u l
+      get_or-append-add (pos (outcome_number (judged f p)) ∷ pos (outcome_place (judged f p)) ∷ constant_by (judged f p) f p ∷ []) rest u (pos 0) ∙ up_to-at (entry_by (judged f p) f p) (pos 0) (8 * f.components) u l
 
-  pub entries-put : (l : List ℤ) {w : List ℤ} {a b c : ℤ} → result_size f ≤ length l → w ≡ rest ++ drop (8 * f.components) (take (length l - 3) (drop 3 l))
-      → a ≡ pos (number_of (judged f p)) → b ≡ pos (place_of (judged f p)) → c ≡ constant_by (judged f p) f p
-      → set (set (set (take 3 l ++ (w ++ drop (length l - 3) (drop 3 l))) 0 a) 1 b) 2 c ≡ over (block_result f p) l
-  unfolding block_result result_size over
-  entries-put l {w} {a} {b} {c} room ew ea eb ec =
-      let e : 3 + 8 * f.components ≡ suc (suc (suc (length rest))) = omega (arith, length-up_to (entry_by (judged f p) f p) (8 * f.components)) in
-      ap (λ (x : List ℤ). set (set (set x 0 a) 1 b) 2 c) (part-back 3 l w ∙ ap (λ (x : List ℤ). take 3 l ++ x) (ew ∙ ap (λ (x : List ℤ). rest ++ drop (8 * f.components) x) (part-is 3 l)))
-      ∙ three (take 3 l) (length-take-le 3 l (omega arith)) ∙ rw (ea, eb, ec) refl
-      ∙ ap (λ (t : List ℤ). pos (number_of (judged f p)) ∷ pos (place_of (judged f p)) ∷ constant_by (judged f p) f p ∷ (rest ++ t)) (drop-drop (8 * f.components) 3 l ∙ ap (λ (k : ℕ). drop k l) e)
-    where
-      three : {W : List ℤ} {a b c : ℤ} (x : List ℤ) → length x ≡ 3 → set (set (set (x ++ W) 0 a) 1 b) 2 c ≡ a ∷ b ∷ c ∷ W
-      three [] e = absurd (omega arith)
-      three (x ∷ []) e = absurd (omega arith)
-      three (x ∷ y ∷ []) e = absurd (omega arith)
-      three (x ∷ y ∷ z ∷ []) e = refl
-      three (x ∷ y ∷ z ∷ w ∷ l) e = absurd (omega arith)
+-- room for so many entries, as the memory's length says it
+pub room-entries : (W n m : ℕ) → 0 < W → W * n ≤ m → n ≤ m / W
+room-entries W n m some h = le-div n m W some (omega arith)
 
-  abbrev bytes : ℕ → ℕ
-  bytes = weight_byte (λ i. get_or (block_result f p) i (pos 0))
+-- the space for a result: for three entries and the weights
+pub result-space : (W : ℕ) (f : Netlist) → W * result_size f ≡ 3 * W + W * (8 * f.components)
+unfolding result_size
+result-space W f = omega arith
 
-  -- behind the first 24 bytes stand those of the weights
-  bytes-behind : (j : ℕ) → j < 8 * (8 * f.components) → weight_byte (entry_by (judged f p) f p) j ≡ bytes (24 + j)
-  bytes-behind j l =
-      let d : 3 + j / 8 ≡ (24 + j) / 8 = omega arith in
-      let m : j % 8 ≡ (24 + j) % 8 = omega arith in
-      ap (λ (z : ℤ). byte_of z (j % 8)) (sym (weight-at (j / 8) (omega arith)) ∙ ap (λ (k : ℕ). get_or (block_result f p) k (pos 0)) d)
-      ∙ ap (byte_of (get_or (block_result f p) ((24 + j) / 8) (pos 0))) m
+-- ---- in memory of entries or of bytes
+module _ {X : Type 0} (W : ℕ) (memory : List ℤ → List X) (filled : ℕ → (ℕ → ℤ) → List X → List X) (is : (g : ℕ → ℤ) (s : List X) (n : ℕ) → filled n g s ≡ memory (up_to n g) ++ drop (W * n) s) (f : Netlist) (p : List ℕ) where
+  -- the weights where a block is accepted,
+  pub weights-accepted : (v : Result Unit Refusal) {answer : Result ℤ Refusal} (old : List X) {new : List X} → answer ≡ giving v (constant f p) → is_err answer ≡ false → new ≡ written_by filled v f p old
+      → new ≡ memory (up_to (8 * f.components) (entry_by v f p)) ++ drop (W * (8 * f.components)) old
+  unfolding entry_by written_by
+  weights-accepted (Ok tt) old ea ok e = e ∙ is (entry f p) old (8 * f.components)
+  weights-accepted (Err r) old ea ok e = absurd (true≢false (sym (ap is_err ea) ∙ ok))
 
-  pub bytes-put : (l : List ℕ) {w x y z : List ℕ} {a b c : ℤ} → 8 * result_size f ≤ length l
-      → w ≡ up_to (8 * (8 * f.components)) (weight_byte (entry_by (judged f p) f p)) ++ drop (8 * (8 * f.components)) (take (length l - 24) (drop 24 l))
-      → a ≡ pos (number_of (judged f p)) → b ≡ pos (place_of (judged f p)) → c ≡ constant_by (judged f p) f p
-      → x ≡ laid (take 24 l ++ (w ++ drop (length l - 24) (drop 24 l))) 0 a → y ≡ laid x 1 b → z ≡ laid y 2 c → z ≡ over (result_bytes f p) l
-  unfolding block_result result_bytes result_size over
-  bytes-put l {w} {x} {y} {z} {a} {b} {c} room ew ea eb ec ex ey ez =
-      let W : List ℕ = up_to (8 * (8 * f.components)) (weight_byte (entry_by (judged f p) f p)) ++ drop (8 * (8 * f.components)) (drop 24 l) in
-      let m : List ℕ = take 24 l ++ W in
-      ez ∙ ap (λ (t : List ℕ). laid t 2 c) (ey ∙ ap (λ (t : List ℕ). laid t 1 b) ex)
-      ∙ ap (λ (x : List ℕ). laid (laid (laid x 0 a) 1 b) 2 c)
-      (part-back 24 l w ∙ ap (λ (x : List ℕ). take 24 l ++ x) (ew ∙ ap (λ (x : List ℕ). up_to (8 * (8 * f.components)) (weight_byte (entry_by (judged f p) f p)) ++ drop (8 * (8 * f.components)) x) (part-is 24 l)) ∙ filled_none bytes m)
-      ∙ ap (λ (x : List ℕ). laid (laid x 1 b) 2 c) (entry_more (block_result f p) m 0 ea) ∙ ap (λ (x : List ℕ). laid x 2 c) (entry_more (block_result f p) m 1 eb)
-      ∙ entry_more (block_result f p) m 2 ec ∙ ap (λ (x : List ℕ). up_to 24 bytes ++ x) (drop_at (take 24 l) W 24 (length-take-le 24 l (omega arith)))
-      ∙ sym (append_assoc (up_to 24 bytes) (up_to (8 * (8 * f.components)) (weight_byte (entry_by (judged f p) f p))) (drop (8 * (8 * f.components)) (drop 24 l))) ∙ ap₂ ◌++◌ front behind
-    where
-      front : up_to 24 bytes ++ up_to (8 * (8 * f.components)) (weight_byte (entry_by (judged f p) f p)) ≡ up_to (8 * (3 + 8 * f.components)) bytes
-      front =
-          let n : 24 + 8 * (8 * f.components) ≡ 8 * (3 + 8 * f.components) = omega arith in
-          ap (λ (x : List ℕ). up_to 24 bytes ++ x) (up_to-cong (8 * (8 * f.components)) (weight_byte (entry_by (judged f p) f p)) (λ j. bytes (24 + j)) bytes-behind)
-          ∙ sym (up_to-append bytes 24 (8 * (8 * f.components))) ∙ ap (λ (k : ℕ). up_to k bytes) n
+  -- and zeros where it is refused
+  pub weights-refused : (v : Result Unit Refusal) {answer : Result ℤ Refusal} (old : List X) {kept new : List X} → answer ≡ giving v (constant f p) → is_err answer ≡ true → kept ≡ written_by filled v f p old
+      → new ≡ filled (8 * f.components) (λ u. pos 0) kept → new ≡ memory (up_to (8 * f.components) (entry_by v f p)) ++ drop (W * (8 * f.components)) old
+  unfolding entry_by written_by
+  weights-refused (Ok tt) old ea bad ek e = absurd (true≢false (sym bad ∙ ap is_err ea))
+  weights-refused (Err r) old ea bad ek e = e ∙ ap (filled (8 * f.components) (λ u. pos 0)) ek ∙ is (λ u. pos 0) old (8 * f.components)
 
-      behind : drop (8 * (8 * f.components)) (drop 24 l) ≡ drop (length (up_to (8 * (3 + 8 * f.components)) bytes)) l
-      behind =
-          let n : 24 + 8 * (8 * f.components) ≡ length (up_to (8 * (3 + 8 * f.components)) bytes) = omega (arith, length-up_to bytes (8 * (3 + 8 * f.components))) in
-          drop-drop (8 * (8 * f.components)) 24 l ∙ ap (λ (k : ℕ). drop k l) n
+module _ {X : Type 0} (W : ℕ) (laid : List ℤ → List X) (more : (xs ys : List ℤ) → laid (xs ++ ys) ≡ laid xs ++ laid ys) (long : (xs : List ℤ) → length (laid xs) ≡ W * length xs) (f : Netlist) (p : List ℕ) where
+  abbrev n : ℕ
+  n = 8 * f.components
+
+  -- the three entries before them
+  pub result-laid : (old : List X) {front back head weights : List X} {a b c : ℤ} → W * result_size f ≤ length old → front ≡ take (3 * W) old → back ≡ drop (3 * W) old
+      → head ≡ laid (a ∷ b ∷ c ∷ []) ++ drop (W * 3) front → weights ≡ laid (up_to n (entry_by (judged f p) f p)) ++ drop (W * n) back
+      → a ≡ pos (outcome_number (judged f p)) → b ≡ pos (outcome_place (judged f p)) → c ≡ constant_by (judged f p) f p
+      → head ++ weights ≡ over (laid (block_result f p)) old
+  unfolding over block_result result_size
+  result-laid old {front} {back} {head} {weights} {a} {b} {c} room ef eb eh ew ea eq ec =
+      let E : List ℤ = up_to n (entry_by (judged f p) f p) in
+      let all : laid (a ∷ b ∷ c ∷ []) ++ laid E ≡ laid (block_result f p) = sym (more (a ∷ b ∷ c ∷ []) E) ∙ ap laid (rw (ea, eq, ec) refl) in
+      let short : length front ≤ W * 3 = omega (arith, ap length ef ∙ length-take-le (3 * W) old (omega (arith, result-space W f))) in
+      let size : 3 * W + W * n ≡ length (laid (block_result f p)) = sym (result-space W f) ∙ sym (ap (λ (m : ℕ). W * m) (length-result f p)) ∙ sym (long (block_result f p)) in
+      ap₂ (λ (x y : List X). x ++ y) (eh ∙ ap (λ (r : List X). laid (a ∷ b ∷ c ∷ []) ++ r) (drop_of_length-le front short) ∙ append-nil (laid (a ∷ b ∷ c ∷ [])))
+      (ew ∙ ap (λ (r : List X). laid E ++ drop (W * n) r) eb)
+      ∙ sym (append_assoc (laid (a ∷ b ∷ c ∷ [])) (laid E) (drop (W * n) (drop (3 * W) old)))
+      ∙ ap₂ (λ (x y : List X). x ++ y) all (drop-drop (W * n) (3 * W) old ∙ ap (λ (m : ℕ). drop m old) size)
+
+-- K of an answer, 0 where it is refused
+pub answer-constant : (v : Result Unit Refusal) (f : Netlist) (p : List ℕ) {k : ℤ} {answer : Result ℤ Refusal} → answer ≡ giving v (constant f p) → k ≡ result_unwrap_or answer (pos 0) → k ≡ constant_by v f p
+unfolding constant_by
+answer-constant (Ok tt) f p e ek = ek ∙ ap (λ (r : Result ℤ Refusal). result_unwrap_or r (pos 0)) e
+answer-constant (Err r) f p e ek = ek ∙ ap (λ (r : Result ℤ Refusal). result_unwrap_or r (pos 0)) e
+
+-- through C: the bytes of a block's result are those of its entries
+pub result-bytes : (f : Netlist) (p : List ℕ) → bytes_of (block_result f p) ≡ result_bytes f p
+unfolding result_bytes
+result-bytes f p =
+    let g : ℕ → ℤ = λ i. get_or (block_result f p) i (pos 0) in
+    let n = length-result f p in
+    let all : block_result f p ≡ up_to (result_size f) g =
+    filled_is g (block_result f p) (pos 0) (result_size f) (omega (arith, n)) (λ i l. refl)
+    ∙ ap (λ (l : List ℤ). up_to (result_size f) g ++ l) (drop_of_length-le (block_result f p) {i = result_size f} (omega (arith, n))) ∙ append-nil (up_to (result_size f) g) in
+    ap bytes_of all ∙ bytes_up_to g (result_size f)

@@ -1,22 +1,21 @@
 // The result of a block, for a fabric that was read.
 #![tactic(auto)]
 
-ghost use Rattle.std.specs.Prelude.{◌≡◌, ◌++◌, ◌+◌, ◌*◌, ◌≤◌, length, drop, pos};
+ghost use Rattle.std.specs.Prelude.{◌≡◌, ◌++◌, ◌+◌, ◌*◌, ◌≤◌, length, drop};
 ghost use Rattle.digits.specs.UpTo.{up_to};
 ghost use Rattle.component.specs.Limits.{most_components};
-ghost use Rattle.netlist.specs.Netlist.{netlist_of};
-ghost use Rattle.netlist.specs.Accepted.{AcceptedNetlist};
-ghost use Rattle.reach.specs.Known.{Known};
+ghost use Rattle.netlist.specs.View.{facts_of};
 ghost use Rattle.flows.specs.Terms.{most_terms};
-ghost use Rattle.flows.specs.Verdict.{judged, constant_by, weight_byte};
-ghost use Rattle.result.specs.Result.{result_size, entry_by, block_result, result_bytes, over};
+ghost use Rattle.flows.specs.Flows.{constant};
+ghost use Rattle.flows.specs.Verdict.{giving, judged};
+ghost use Rattle.result.specs.Result.{result_size, entry_by, block_result, over};
 
-use component::MOST_ENTRIES;
-use judgement::Judgement;
+use judgement::Entry;
 use netlist::Size;
-use refusals::Verdict;
+use refusals::{Refusal, outcome_number, outcome_place};
+use spread::ColouredNetlist;
 
-// How many entries a block's result has.
+/// How many entries a block's result has.
 pub fn result_size(size: Size) -> usize
     requires { size.components ≤ most_components }
     ensures { result ≡ 3 + 8 * size.components }
@@ -24,95 +23,34 @@ pub fn result_size(size: Size) -> usize
     3 + 8 * size.components
 }
 
-// The first n entries are 0.
-fn clear_entries(out: &mut [i64], n: usize)
-    requires { n ≤ length out.old }
-    ensures { out.new ≡ up_to n (λ u. pos 0) ++ drop n out.old }
+// The judgement on a block, and its weights in lent memory, or zeros.
+fn weigh<E: Entry>(coloured: &ColouredNetlist, block: &[u8], out: &mut [E]) -> Result<i64, Refusal>
+    requires { E.WIDTH * (8 * coloured.now.netlist.size.components) ≤ length out.old }
+    ensures answer { result ≡ giving (judged (facts_of coloured.now.netlist) block.now) (constant (facts_of coloured.now.netlist) block.now) }
+    ensures weights { out.new ≡ E.memory (up_to (8 * coloured.now.netlist.size.components) (entry_by (judged (facts_of coloured.now.netlist) block.now) (facts_of coloured.now.netlist) block.now)) ++ drop (E.WIDTH * (8 * coloured.now.netlist.size.components)) out.old }
 {
-    for u in 0..n {
-        out[u] = 0;
+    let entries = 8 * coloured.netlist.size.components;
+    let outcome = judgement::judge(coloured, block, out);
+    if outcome.is_err() {
+        judgement::clear(out, entries);
     }
+    outcome
 }
 
-// The first n bytes are 0.
-fn clear_bytes(out: &mut [u8], n: usize)
-    requires { n ≤ length out.old }
-    ensures { out.new ≡ up_to n (λ j. 0) ++ drop n out.old }
+/// Puts a block's result into lent memory: its number, its place, K and its weights, entries or bytes.
+pub fn put<E: Entry>(coloured: &ColouredNetlist, block: &[u8], out: &mut [E])
+    requires block { length block.now ≤ 4 * most_terms }
+    requires room { E.WIDTH * result_size (facts_of coloured.now.netlist) ≤ length out.old }
+    ensures { out.new ≡ over (E.memory (block_result (facts_of coloured.now.netlist) block.now)) out.old }
 {
-    for j in 0..n {
-        out[j] = 0;
-    }
-}
-
-// The judgement on a block, and its weights in lent entries.
-fn weigh_entries(table: &[u8], size: Size, sets: &[u8], block: &[u8], out: &mut [i64]) -> Judgement
-    requires accepted_netlist { AcceptedNetlist (netlist_of size table.now) }
-    requires known { Known (netlist_of size table.now) sets.now }
-    requires room { 8 * size.components ≤ length out.old }
-    ensures { (result.verdict ≡ judged (netlist_of size table.now) block.now)
-        × (result.constant ≡ constant_by (judged (netlist_of size table.now) block.now) (netlist_of size table.now) block.now)
-        × (out.new ≡ up_to (8 * size.components) (entry_by (judged (netlist_of size table.now) block.now) (netlist_of size table.now) block.now) ++ drop (8 * size.components) out.old) }
-{
-    let j = judgement::judge(table, size, sets, block, &mut *out);
-    let found = j.verdict;
-    match found {
-        Verdict::Accepted => j,
-        Verdict::Refused(_r) => {
-            clear_entries(&mut *out, 8 * size.components);
-            j
-        }
-    }
-}
-
-// The same in lent bytes, 8 for each entry.
-fn weigh_bytes(table: &[u8], size: Size, sets: &[u8], block: &[u8], out: &mut [u8]) -> Judgement
-    requires accepted_netlist { AcceptedNetlist (netlist_of size table.now) }
-    requires known { Known (netlist_of size table.now) sets.now }
-    requires room { 8 * (8 * size.components) ≤ length out.old }
-    ensures { (result.verdict ≡ judged (netlist_of size table.now) block.now)
-        × (result.constant ≡ constant_by (judged (netlist_of size table.now) block.now) (netlist_of size table.now) block.now)
-        × (out.new ≡ up_to (8 * (8 * size.components)) (weight_byte (entry_by (judged (netlist_of size table.now) block.now) (netlist_of size table.now) block.now)) ++ drop (8 * (8 * size.components)) out.old) }
-{
-    let j = judgement::judge_bytes(table, size, sets, block, MOST_ENTRIES, &mut *out);
-    let found = j.verdict;
-    match found {
-        Verdict::Accepted => j,
-        Verdict::Refused(_r) => {
-            clear_bytes(&mut *out, 8 * (8 * size.components));
-            j
-        }
-    }
-}
-
-// A block's result into lent entries.
-pub fn put_entries(table: &[u8], size: Size, sets: &[u8], block: &[u8], out: &mut [i64])
-    requires accepted_netlist { AcceptedNetlist (netlist_of size table.now) }
-    requires known { Known (netlist_of size table.now) sets.now }
-    requires room { (length block.now ≤ 4 * most_terms) × (result_size (netlist_of size table.now) ≤ length out.old) }
-    ensures { out.new ≡ over (block_result (netlist_of size table.now) block.now) out.old }
-{
-    let first: usize = 3;
-    let j = weigh_entries(table, size, sets, block, &mut out[first..]);
-    let found = j.verdict;
-    let number = refusals::number_of(found) as i64;
-    let place = refusals::place_of(found) as i64;
-    let constant = j.constant;
-    out[0] = number;
-    out[1] = place;
-    out[2] = constant;
-}
-
-// A block's result into lent bytes.
-pub fn put_bytes(table: &[u8], size: Size, sets: &[u8], block: &[u8], out: &mut [u8])
-    requires accepted_netlist { AcceptedNetlist (netlist_of size table.now) }
-    requires known { Known (netlist_of size table.now) sets.now }
-    requires room { (length block.now ≤ 4 * most_terms) × (8 * result_size (netlist_of size table.now) ≤ length out.old) }
-    ensures { out.new ≡ over (result_bytes (netlist_of size table.now) block.now) out.old }
-{
-    let first: usize = 24;
-    let j = weigh_bytes(table, size, sets, block, &mut out[first..]);
-    let found = j.verdict;
-    judgement::write_entry(&mut *out, 0, refusals::number_of(found) as i64);
-    judgement::write_entry(&mut *out, 1, refusals::place_of(found) as i64);
-    judgement::write_entry(&mut *out, 2, j.constant);
+    let (head, weights) = out.split_at_mut(3 * E::WIDTH);
+    let outcome = weigh(coloured, block, weights);
+    judgement::write_entries(
+        head,
+        &[
+            i64::from(outcome_number(outcome)),
+            outcome_place(outcome) as i64,
+            outcome.unwrap_or(0),
+        ],
+    );
 }

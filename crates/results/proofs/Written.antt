@@ -1,7 +1,7 @@
--- Result after result, written over lent memory: entries or bytes, so many for a block. Assumes nothing.
+-- Result after result, written over lent memory. Assumes nothing.
 use mathlib.Core.Path.{◌≡◌, refl, sym, subst, ap, ap₂, ◌∙◌}
-use mathlib.Core.List.{List, [], ◌++◌, append_assoc}
-use Prim.Native.Nat.{ℕ, zero, suc, ◌+◌, ◌*◌, ◌-◌, ◌≤◌, ◌<◌}
+use mathlib.Core.List.{List, [], ◌∷◌, ◌++◌, append_assoc}
+use Prim.Native.Nat.{ℕ, zero, suc, ◌+◌, ◌*◌, ◌≤◌, ◌<◌}
 use native.Mathlib.Nat.{zero-mul, suc-mul, mul-le-mul_right}
 use native.Mathlib.Numerals.{add-one}
 use native.Mathlib.Decide.{dec_lt}
@@ -9,10 +9,17 @@ use native.Mathlib.Omega.{arith}
 use lib.ListN.{length, get_or, take, drop, length-append, length-drop, get_or-append}
 use lib.Seq.{take_at, drop_at, drop-drop, get_or-append-add}
 use Rattle.flows.specs.Terms.{most_terms}
-use Rattle.blocks.specs.Blocks.{most_blocks, term_count, block_start, block, each_block, Fills}
-use Rattle.blocks.proofs.Blocks.{start_none, start-more, block_inside, block-length}
-use Rattle.result.specs.Result.{over}
-use Rattle.result.proofs.Parts.{part-is, part-back, part_length}
+use lib.IntN.{ℤ}
+use mathlib.Core.Bool.{false}
+use Rattle.std.proofs.lemmas.List.{length-take}
+use native.Mathlib.Nat.{mul-le-mul_left}
+use Rattle.blocks.specs.Blocks.{term_count, block, blocks, bad_blocks, each_block, behind, StartsWhole, IsSplit}
+use Rattle.blocks.proofs.Blocks.{start_none, filled, split-is, not-all, all-behind, behind-more}
+use Rattle.netlist.specs.Netlist.{Netlist}
+use Rattle.judgement.specs.Memory.{bytes_of}
+use Rattle.judgement.specs.MemoryLaws.{bytes_more}
+use Rattle.result.specs.Result.{block_result, result_bytes, over}
+use Rattle.result.proofs.Result.{result-bytes}
 
 pub length_over : {X : Type 0} (new old : List X) → length new ≤ length old → length (over new old) ≡ length old
 unfolding over
@@ -41,17 +48,6 @@ module _ {X : Type 0} (g : List ℕ → List X) (size : ℕ) (sized : (p : List 
   each-length zero = sym (zero-mul size)
   each-length (suc n) = each-suc n ∙ ap (λ (k : ℕ). k + size) (each-length n) ∙ sym (suc-mul n size)
 
-  -- there is room for one more
-  each-room : (n b : ℕ) → b < n → length (each_block g file b) + size ≤ length (each_block g file n)
-  each-room zero b l = absurd (omega arith)
-  each-room (suc n) b l = pick (each-room n b) (dec_lt b n)
-    where
-      pick : (b < n → length (each_block g file b) + size ≤ length (each_block g file n)) → Dec (b < n) → length (each_block g file b) + size ≤ length (each_block g file (suc n))
-      pick below (yes m) = omega (arith, below m, each-suc n)
-      pick below (no m) =
-          let e : b ≡ n = omega arith in
-          omega (arith, ap (λ (k : ℕ). length (each_block g file k)) e, each-suc n)
-
   -- what stands where
   pub each_at : (d : X) (n b i : ℕ) → b < n → i < size → (rest : List X) → get_or (each_block g file n ++ rest) (length (each_block g file b) + i) d ≡ get_or (g (block file b)) i d
   each_at d zero b i l h rest = absurd (omega arith)
@@ -66,83 +62,91 @@ module _ {X : Type 0} (g : List ℕ → List X) (size : ℕ) (sized : (p : List 
           let e : b ≡ n = omega arith in
           rw e (get_or-append-add (each_block g file n) (g (block file n) ++ rest) i d ∙ get_or-append (g (block file n)) rest d i (omega (arith, sized (block file n))))
 
--- ---- the results of b blocks are written: those lie before byte `at` of the file, these before `to` of the lent memory, l at the start
-pub record Written {X : Type 0} (g : List ℕ → List X) (file : List ℕ) (n : ℕ) (l out : List X) (at to b : ℕ) : Type 0 where
-  pub few : b ≤ n
-  pub here : at ≡ block_start file b
-  pub behind : to ≡ length (each_block g file b)
-  pub done : out ≡ over (each_block g file b) l
+-- ---- the results of some blocks are written: `rest` is left of the file, they lie before place `to` of lent memory, and that was `old` at first
+pub record Written {X : Type 0} (W : ℕ) (laid : List ℤ → List X) (g : List ℕ → List ℤ) (size : ℕ) (file : List ℕ) (old : List X) (rest : List ℕ) (out : List X) (to : ℕ) : Type 0 where
+  pub done : ℕ
+  pub few : done ≤ blocks file
+  pub left : rest ≡ behind file done
+  pub here : to ≡ W * (done * size)
+  pub written : out ≡ over (laid (each_block g file done)) old
 
-pub written_none : {X : Type 0} (g : List ℕ → List X) (file : List ℕ) (n : ℕ) (l : List X) {b : ℕ} → b ≡ 0 → Written g file n l l 0 0 b
-written_none g file n l {b} e = subst (Written g file n l l 0 0) (sym e) first
-  where
-    first : Written g file n l l 0 0 0
-    first = record { few = omega arith; here = sym (start_none file); behind = sym (ap length (each_none g file)); done = over_none g file l }
+module _ {X : Type 0} (W : ℕ) (laid : List ℤ → List X) (more : (xs ys : List ℤ) → laid (xs ++ ys) ≡ laid xs ++ laid ys) (long : (xs : List ℤ) → length (laid xs) ≡ W * length xs)
+    (g : List ℕ → List ℤ) (size : ℕ) (sized : (p : List ℕ) → length (g p) ≡ size) (file : List ℕ) (old : List X) (good : bad_blocks file ≡ false) (room : W * (blocks file * size) ≤ length old) where
+  laid-none : laid [] ≡ []
+  laid-none = no_length (laid []) (long [] ∙ omega arith)
+    where
+      no_length : (l : List X) → length l ≡ 0 → l ≡ []
+      no_length [] e = refl
+      no_length (x ∷ l) e = absurd (omega arith)
 
-module _ {X : Type 0} {g : List ℕ → List X} {file : List ℕ} {n : ℕ} {l out : List X} {at to b : ℕ} (w : Written g file n l out at to b) where
-  pub written_all : b ≡ n → out ≡ over (each_block g file n) l
-  written_all e = w.done ∙ ap (λ (k : ℕ). over (each_block g file k) l) e
+  laid-each : (n : ℕ) → length (laid (each_block g file n)) ≡ W * (n * size)
+  laid-each n = long (each_block g file n) ∙ ap (λ (k : ℕ). W * k) (each-length g size sized file n)
 
-  -- ---- the next block: its count, and its terms
-  module _ (f : Fills file n) (h : b < n) where
-    pub count-inside : at + 2 ≤ length file
-    count-inside = omega (arith, block_inside f b h, w.here)
+  pub written_none : Written W laid g size file old file old 0
+  unfolding over each_block
+  written_none = record {
+    done = 0;
+    few = omega arith;
+    left = ap (λ (i : ℕ). drop i file) (sym (start_none file));
+    here = omega arith;
+    written = ap (λ (l : List X). l ++ drop (length l) old) (sym laid-none);
+  }
 
-    module _ {count : ℕ} (e : count ≡ term_count file at) where
-      same_count : count ≡ term_count file (block_start file b)
-      same_count = e ∙ ap (term_count file) w.here
+  module _ {rest : List ℕ} {out : List X} {to : ℕ} (w : Written W laid g size file old rest out to) where
+    places : (n : ℕ) → n ≤ blocks file → W * (n * size) ≤ W * (blocks file * size)
+    places n l = mul-le-mul_left W (mul-le-mul_right {m = n} {n = blocks file} size l)
 
-      pub terms-inside : at + 2 + 4 * count ≤ length file
-      terms-inside = omega (arith, same_count, block_inside f b h, w.here)
+    pub written-length : length out ≡ length old
+    written-length = ap length w.written ∙ length_over (laid (each_block g file w.done)) old (omega (arith, laid-each w.done, places w.done w.few))
 
-      terms-are : take (at + 2 + 4 * count - (at + 2)) (drop (at + 2) file) ≡ block file b
-      unfolding block
-      terms-are =
-          let m : at + 2 + 4 * count - (at + 2) ≡ 4 * term_count file (block_start file b) = omega (arith, same_count) in
-          ap₂ (λ (k i : ℕ). take k (drop (i + 2) file)) m w.here
+    pub to-inside : to ≤ length out
+    to-inside = omega (arith, w.here, places w.done w.few, written-length)
 
-      pub terms-short : length (take (at + 2 + 4 * count - (at + 2)) (drop (at + 2) file)) ≤ 4 * most_terms
-      terms-short = omega (arith, ap length terms-are, block-length f b h, f.short b h)
+    -- nothing begins there: all are written
+    pub written_all : (StartsWhole rest → ⊥) → out ≡ over (laid (each_block g file (blocks file))) old
+    written_all no-more = w.written ∙ ap (λ (n : ℕ). over (laid (each_block g file n)) old) (all-behind file w.done (filled file good) w.few (subst (λ (l : List ℕ). StartsWhole l → ⊥) w.left no-more))
 
-  -- ---- and its result
-  module _ (size : ℕ) (sized : (p : List ℕ) → length (g p) ≡ size) where
-    pub written_small : n ≤ most_blocks → to ≤ most_blocks * size
-    written_small few = omega (arith, w.behind, each-length g size sized file b, mul-le-mul_right {m = b} {n = most_blocks} size (omega (arith, w.few)))
+    -- a further block
+    module _ (s : StartsWhole rest) {terms after : List ℕ} (split : IsSplit rest terms after) where
+      inside : w.done < blocks file
+      inside = not-all file w.done (filled file good) w.few (subst StartsWhole w.left s)
 
-    module _ (room : length (each_block g file n) ≤ length l) where
-      pub written-length : length out ≡ length l
-      written-length = ap length w.done ∙ length_over (each_block g file b) l (omega (arith, fits (dec_lt b n)))
+      is-block : terms ≡ block file w.done
+      is-block = split.first ∙ ap (λ (l : List ℕ). take (4 * term_count l 0) (drop 2 l)) w.left ∙ split-is file w.done
+
+      pub terms-short : length terms ≤ 4 * most_terms
+      terms-short = omega (arith, ap length split.first, length-take (4 * term_count rest 0) (drop 2 rest), s.short)
+
+      -- there is room for its result
+      pub space : to + W * size ≤ length out
+      space = omega (arith, w.here, next, places (w.done + 1) (omega (arith, inside)), room, written-length)
         where
-          fits : Dec (b < n) → length (each_block g file b) ≤ length (each_block g file n)
-          fits (yes h) = omega (arith, each-room g size sized file n b h)
-          fits (no h) =
-              let e : b ≡ n = omega (arith, w.few) in
-              omega (arith, ap (λ (k : ℕ). length (each_block g file k)) e)
+          next : W * ((w.done + 1) * size) ≡ W * (w.done * size) + W * size
+          next = omega arith
 
-      -- there is room for it
-      pub written-room : b < n → to + size ≤ length out
-      written-room h = omega (arith, each-room g size sized file n b h, w.behind, written-length)
+      pub written-more : {front part new : List X} → front ≡ take to out → part ≡ drop to out → new ≡ over (laid (g terms)) part → Written W laid g size file old after (front ++ new) (to + W * size)
+      unfolding over each_block
+      written-more {front} {part} {new} ef ep en =
+          let E : List X = laid (each_block g file w.done) in
+          let G : List X = laid (g (block file w.done)) in
+          let at : length E ≡ to = laid-each w.done ∙ sym w.here in
+          let both : E ++ G ≡ laid (each_block g file (suc w.done)) = sym (more (each_block g file w.done) (g (block file w.done))) in
+          let first : front ≡ E = ef ∙ ap (take to) w.written ∙ take_at E (drop (length E) old) to at in
+          let second : part ≡ drop (length E) old = ep ∙ ap (drop to) w.written ∙ drop_at E (drop (length E) old) to at in
+          let third : new ≡ G ++ drop (length G) (drop (length E) old) = en ∙ ap₂ (λ (p : List ℕ) (x : List X). laid (g p) ++ drop (length (laid (g p))) x) is-block second in
+          record {
+            done = w.done + 1;
+            few = omega (arith, inside);
+            left = split.rest ∙ ap (λ (l : List ℕ). drop (2 + 4 * term_count l 0) l) w.left ∙ behind-more file w.done;
+            here = omega (arith, w.here);
+            written =
+                ap₂ (λ (x y : List X). x ++ y) first third ∙ sym (append_assoc E G (drop (length G) (drop (length E) old)))
+                ∙ ap (λ (x : List X). (E ++ G) ++ x) (drop-drop (length G) (length E) old ∙ ap (λ (n : ℕ). drop n old) (sym (length-append E G)))
+                ∙ ap (λ (x : List X). x ++ drop (length x) old) both ∙ ap (λ (n : ℕ). laid (each_block g file n) ++ drop (length (laid (each_block g file n))) old) (sym (add-one w.done));
+          }
 
-      pub written-part : b < n → size ≤ length (take (length out - to) (drop to out))
-      written-part h = omega (arith, written-room h, part_length to out (omega (arith, written-room h)))
-
-    pub written-more : (f : Fills file n) (h : b < n) {count : ℕ} → count ≡ term_count file at → {new : List X} {each : ℕ} → each ≡ size
-        → new ≡ over (g (take (at + 2 + 4 * count - (at + 2)) (drop (at + 2) file))) (take (length out - to) (drop to out))
-        → Written g file n l (take to out ++ (new ++ drop (length out - to) (drop to out))) (at + 2 + 4 * count) (to + each) (b + 1)
-    unfolding over each_block
-    written-more f h e {new} {each} es en =
-        let E : List X = each_block g file b in
-        let G : List X = g (block file b) in
-        let D : List X = drop (length E) l in
-        record {
-          few = omega arith;
-          here = omega (arith, same_count f h e, w.here, start-more file b);
-          behind = ap₂ ◌+◌ w.behind es ∙ sym (ap (λ (k : ℕ). length (each_block g file k)) (add-one b) ∙ each-suc g size sized file b);
-          done =
-              part-back to out new
-              ∙ ap (λ (x : List X). take to out ++ x) (en ∙ ap₂ (λ (p : List ℕ) (x : List X). g p ++ drop (length (g p)) x) (terms-are f h e) (part-is to out))
-              ∙ ap (λ (x : List X). take to x ++ (G ++ drop (length G) (drop to x))) w.done
-              ∙ ap₂ (λ (x y : List X). x ++ (G ++ drop (length G) y)) (take_at E D to (sym w.behind)) (drop_at E D to (sym w.behind)) ∙ sym (append_assoc E G (drop (length G) D))
-              ∙ ap (λ (x : List X). (E ++ G) ++ x) (drop-drop (length G) (length E) l ∙ ap (λ (k : ℕ). drop k l) (sym (length-append E G)))
-              ∙ ap (λ (k : ℕ). each_block g file k ++ drop (length (each_block g file k)) l) (sym (add-one b));
-        }
+-- through C: what is written are the bytes of all entries
+pub each-bytes : (f : Netlist) (file : List ℕ) (n : ℕ) → bytes_of (each_block (block_result f) file n) ≡ each_block (result_bytes f) file n
+unfolding each_block bytes_of
+each-bytes f file zero = refl
+each-bytes f file (suc n) = bytes_more (each_block (block_result f) file n) (block_result f (block file n)) ∙ ap₂ (λ (a b : List ℕ). a ++ b) (each-bytes f file n) (result-bytes f (block file n))

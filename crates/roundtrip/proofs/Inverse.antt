@@ -1,4 +1,5 @@
 -- What pack writes is read as it was, and what is read is packed as it was. Assumes nothing.
+use Rattle.std.proofs.Common.{Ok}
 use mathlib.Core.Path.{◌≡◌, refl, ap, ap₂, sym, subst, ◌∙◌}
 use Prim.Native.Nat.{ℕ, zero, suc, ◌+◌, ◌-◌, ◌*◌, ◌%◌, ◌≤◌, ◌<◌}
 use native.Mathlib.Nat.{le_of_eq, mod-lt}
@@ -17,7 +18,6 @@ use Rattle.digits.proofs.Sum.{sum-append, to-zero, negated-only}
 use Rattle.digits.proofs.Least.{least-same, least-none}
 use Rattle.refusals.specs.Refusals.{test, first_refusal}
 use Rattle.refusals.specs.declared.Refusal.TheVariants.{BadField}
-use Rattle.refusals.specs.declared.Verdict.TheVariants.{Accepted}
 use Rattle.refusals.proofs.Refusals.{cond-accepted}
 use Rattle.record.specs.Record.{row_widths, record_row, record_pad, record_bytes}
 use Rattle.record.specs.Table.{row, record_at, open_table, records}
@@ -30,7 +30,6 @@ use Rattle.netlist.specs.Netlist.{sized}
 use Rattle.reader.specs.File.{header_widths, header_fields, colours_in, channels_in, components_in, bad_row, bad_record, first_bad_row, first_bad_record, record_tests, wire_tests}
 use Rattle.reader.specs.Reading.{reading}
 use Rattle.reader.specs.Stages.{header_read}
-use Rattle.reader.specs.declared.Reading.TheVariants.{Fabric}
 use Rattle.reader.proofs.Accepted.{accepted-header, accepted-size, accepted-records, accepted-long}
 use Rattle.reader.proofs.Tests.{wrong_range, is_right, colours-lt, channels-lt}
 use Rattle.reader.proofs.Facts.{HeaderFacts, reading-rest, records-accepted, good-records}
@@ -56,7 +55,7 @@ file-sum c n m k rest hc hn hm hk =
     total a k r x y p q e₁ e₂ e₃ e₄ = omega arith
 
 -- ---- a table, packed and read
-module _ (C M N : ℕ) (t : List ℕ) (i : Inside C M N) (long : length t ≡ row_size * N) (byte : (k : ℕ) → get_or t k 0 < 256) (ok : table_verdict C M t N ≡ Accepted) where
+module _ (C M N : ℕ) (t : List ℕ) (i : Inside C M N) (long : length t ≡ row_size * N) (byte : (k : ℕ) → get_or t k 0 < 256) (ok : table_verdict C M t N ≡ (Ok tt)) where
   check : ℕ
   check = negated (sum (header_bytes C N M 0 ++ records t N))
 
@@ -64,7 +63,7 @@ module _ (C M N : ℕ) (t : List ℕ) (i : Inside C M N) (long : length t ≡ ro
   unfolding packed_file
   length-packed = length-append (header_bytes C N M _) (records t N) ∙ omega (arith, length-header C N M (negated (sum (header_bytes C N M 0 ++ records t N))), length-records t N)
 
-  verdict : first_refusal (test (BadField (first_bad_row C M t N)) (ltb (first_bad_row C M t N) N) ∷ wire_tests t N M) ≡ Accepted
+  verdict : first_refusal (test (BadField (first_bad_row C M t N)) (ltb (first_bad_row C M t N) N) ∷ wire_tests t N M) ≡ (Ok tt)
   unfolding table_verdict
   verdict = ok
 
@@ -121,19 +120,19 @@ module _ (C M N : ℕ) (t : List ℕ) (i : Inside C M N) (long : length t ≡ ro
   first-same = least-same _ _ N same_test
 
   -- a file that pack wrote is read with the same counts
-  pub reading-back : reading (packed_file C M t N) ≡ Fabric (sized C M N)
+  pub reading-back : reading (packed_file C M t N) ≡ Ok (sized C M N)
   reading-back =
       let f : List ℕ = packed_file C M t N in
       let h : List ℕ = 1 ∷ (C - 1) ∷ 0 ∷ N ∷ M ∷ check ∷ [] in
       let c : C - 1 + 1 ≡ C = omega (arith, i.some_colours) in
       let e₂ : wrong_range h ≡ false = rw (ne_eqb N 0 (λ q. absurd (omega (arith, i.some_rows))), le-ltb most_components N i.few_rows, ne_eqb M 0 (λ q. absurd (omega (arith, i.some_channels)))) in
-      let head : header_read (header_fields f) f ≡ Fabric (sized C M N) =
-      ap (λ (l : List ℕ). header_read l f) header-back ∙ sym (is_right h f refl e₂ length-packed 0 (sym sum_back) refl) ∙ ap (λ (x : ℕ). Fabric (sized x M N)) c in
-      let tests : first_refusal (record_tests C M f t N) ≡ Accepted = rw first-same verdict in
+      let head : header_read (header_fields f) f ≡ Ok (sized C M N) =
+      ap (λ (l : List ℕ). header_read l f) header-back ∙ sym (is_right h f refl e₂ length-packed 0 (sym sum_back) refl) ∙ ap (λ (x : ℕ). Ok (sized x M N)) c in
+      let tests : first_refusal (record_tests C M f t N) ≡ (Ok tt) = rw first-same verdict in
       reading-rest f (omega (arith, length-packed)) (sized C M N) head ∙ rw (table-back, tests)
 
 -- ---- a file, read and packed
-module _ (f : List ℕ) (C M N : ℕ) (byte : (k : ℕ) → get_or f k 0 < 256) (e : reading f ≡ Fabric (sized C M N)) where
+module _ (f : List ℕ) (C M N : ℕ) (byte : (k : ℕ) → get_or f k 0 < 256) (e : reading f ≡ Ok (sized C M N)) where
   facts : HeaderFacts (header_fields f) f
   facts = accepted-header f e
 
@@ -159,13 +158,13 @@ module _ (f : List ℕ) (C M N : ℕ) (byte : (k : ℕ) → get_or f k 0 < 256) 
         few_colours = omega arith;
       }
 
-  accepted : first_refusal (record_tests C M f (open_table f N) N) ≡ Accepted
+  accepted : first_refusal (record_tests C M f (open_table f N) N) ≡ (Ok tt)
   accepted = accepted-records f e
 
   good-all : N ≤ first_bad_record C M f (open_table f N) N
   good-all = (records-accepted C M N f (open_table f N) accepted).0
 
-  pub verdict-back : table_verdict C M (open_table f N) N ≡ Accepted
+  pub verdict-back : table_verdict C M (open_table f N) N ≡ (Ok tt)
   unfolding table_verdict first_bad_row
   verdict-back =
       let none : first_bad_row C M (open_table f N) N ≡ N = least-none (bad_row C M (open_table f N)) N (λ k h. rw (good-records C M N f (open_table f N) good-all k h).1) in

@@ -1,4 +1,6 @@
 -- The theorems of specs/RoundTrip.antt. Assumes nothing.
+use Rattle.std.proofs.Common.{Result, Ok, Err}
+use Rattle.refusals.specs.declared.Refusal.{Refusal}
 use mathlib.Core.Path.{◌≡◌, refl, ap, ap₂, sym, ◌∙◌}
 use Prim.Native.Nat.{ℕ, ◌*◌, ◌/◌, ◌≤◌}
 use native.Mathlib.Omega.{arith}
@@ -7,8 +9,6 @@ use mathlib.Core.List.{List, ◌++◌}
 use lib.ListN.{length, drop}
 use borrow.Author.Tests.{ne_eqb, le-ltb}
 use Rattle.refusals.specs.Room.{room_for}
-use Rattle.refusals.specs.declared.Verdict.{Verdict}
-use Rattle.refusals.specs.declared.Verdict.TheVariants.{Accepted, Refused}
 use Rattle.record.specs.Table.{open_table}
 use Rattle.record.specs.Sizes.{file_size, row_size}
 use Rattle.record.proofs.Table.{length-rows}
@@ -16,48 +16,47 @@ use Rattle.component.specs.Limits.{most_channels, most_colours, most_components}
 use Rattle.netlist.specs.Netlist.{sized}
 use Rattle.netlist.specs.declared.Size.{Size}
 use Rattle.reader.specs.Reading.{read_as, verdict_of, colours_of, channels_of, reading}
-use Rattle.reader.specs.declared.Reading.{Reading}
-use Rattle.reader.specs.declared.Reading.TheVariants.{Fabric, Rejected}
 use Rattle.fabric.specs.PackedFile.{packed_file}
 use Rattle.fabric.specs.Calls.{unpacked, packed}
+use Rattle.refusals.proofs.Room.{room-given}
 use Rattle.fabric.proofs.Unpacked.{unpacked-fabric, table_of}
-use Rattle.fabric.proofs.Writing.{outside, Inside, is-judged, PackFacts, pack-accepted, file-of}
+use Rattle.fabric.proofs.Writing.{outside, Inside, judged-room, PackFacts, pack-accepted, file-of}
 use Rattle.roundtrip.specs.RoundTrip.{Bytes, file_of, RoundTripFile, RoundTripTable, WrittenAccepted, OneFile, OneTable}
 use Rattle.roundtrip.proofs.Inverse.{reading-back, table-back, file-back, file-long, inside_back, verdict-back}
 
-abbrev components_of : Reading → ℕ
-components_of (Fabric s) = s.components
-components_of (Rejected r) = 0
+abbrev components_of : Result Size Refusal → ℕ
+components_of (Ok s) = s.components
+components_of (Err r) = 0
 
 -- ---- an accepted table
-module _ (C M : ℕ) (t : List ℕ) (byte : Bytes t) (given : ℕ) (a : packed C M t given ≡ Accepted) where
+module _ (C M : ℕ) (t : List ℕ) (byte : Bytes t) (given : ℕ) (a : packed C M t given ≡ (Ok tt)) where
   facts : PackFacts C M t given
   facts = pack-accepted C M t given a
 
   long : length t ≡ row_size * (length t / row_size)
   long = omega (arith, facts.even)
 
-  read_back : reading (file_of C M t) ≡ Fabric (sized C M (length t / row_size))
+  read_back : reading (file_of C M t) ≡ Ok (sized C M (length t / row_size))
   read_back = reading-back C M (length t / row_size) t facts.inside long byte facts.verdict
 
   open-back : open_table (file_of C M t) (length t / row_size) ≡ t
   open-back = table-back C M (length t / row_size) t facts.inside long byte facts.verdict
 
-  unpacked-back : (space : ℕ) → unpacked (file_of C M t) space ≡ read_as (room_for Accepted space (row_size * (length t / row_size))) (sized C M (length t / row_size))
+  unpacked-back : (space : ℕ) → unpacked (file_of C M t) space ≡ read_as (room_for space (row_size * (length t / row_size))) (sized C M (length t / row_size))
   unpacked-back space = sym (unpacked-fabric (file_of C M t) read_back space)
 
-verdict-read : (v : Verdict) (s : Size) → verdict_of (read_as v s) ≡ v
-verdict-read Accepted s = refl
-verdict-read (Refused r) s = refl
+verdict-read : (v : Result Unit Refusal) (s : Size) → verdict_of (read_as v s) ≡ v
+verdict-read (Ok tt) s = refl
+verdict-read (Err r) s = refl
 
 pub written_accepted : WrittenAccepted
-written_accepted C M t byte given a space = ap verdict_of (unpacked-back C M t byte given a space) ∙ verdict-read (room_for Accepted space (row_size * (length t / row_size))) (sized C M (length t / row_size))
+written_accepted C M t byte given a space = ap verdict_of (unpacked-back C M t byte given a space) ∙ verdict-read (room_for space (row_size * (length t / row_size))) (sized C M (length t / row_size))
 
 pub round_trip_table : RoundTripTable
 round_trip_table C M t byte given a space h =
     let n : ℕ = length t / row_size in
     let l = long C M t byte given a in
-    let e : unpacked (file_of C M t) (length space) ≡ Fabric (sized C M n) = unpacked-back C M t byte given a (length space) ∙ rw (le-ltb (length space) (row_size * n) (omega arith)) in
+    let e : unpacked (file_of C M t) (length space) ≡ Ok (sized C M n) = unpacked-back C M t byte given a (length space) ∙ rw (le-ltb (length space) (row_size * n) (omega arith)) in
     (e, sym (table_of (file_of C M t) space _ (sym e)) ∙ ap₂ (λ (x : List ℕ) (k : ℕ). x ++ drop k space) (open-back C M t byte given a) (sym l))
 
 pub one_table : OneTable
@@ -85,11 +84,11 @@ round_trip_file f byte C M N e space h =
     let n : length t / row_size ≡ N = omega (arith, length-rows f N) in
     let l = file-long f C M N byte e in
     let room : file_size (length t / row_size) ≤ length space = omega arith in
-    let p : Accepted ≡ packed C M t (length space) =
-    is-judged C M t (length space) (omega (arith, length-rows f N)) (rw n (not-outside C M N (inside_back f C M N byte e))) Accepted Accepted (rw n (sym (verdict-back f C M N byte e)))
-    (rw (le-ltb (length space) (file_size (length t / row_size)) room)) in
+    let p : (Ok tt) ≡ packed C M t (length space) =
+    sym (room-given (length space) (file_size (length t / row_size)) room)
+    ∙ judged-room C M t (length space) (omega (arith, length-rows f N)) (rw n (not-outside C M N (inside_back f C M N byte e))) (rw n (sym (verdict-back f C M N byte e))) in
     let q : file_size (length t / row_size) ≡ length f = omega arith in
-    (sym p, sym (file-of C M t space Accepted p) ∙ ap₂ (λ (x : List ℕ) (k : ℕ). x ++ drop k space) (ap (packed_file C M t) n ∙ file-back f C M N byte e) q)
+    (sym p, sym (file-of C M t space (Ok tt) p) ∙ ap₂ (λ (x : List ℕ) (k : ℕ). x ++ drop k space) (ap (packed_file C M t) n ∙ file-back f C M N byte e) q)
 
 pub one_file : OneFile
 one_file f g bf bg C M N e d s = sym (file-back f C M N bf e) ∙ ap (λ (t : List ℕ). packed_file C M t N) s ∙ file-back g C M N bg d

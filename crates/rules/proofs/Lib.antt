@@ -1,4 +1,2 @@
-pub mod Ports
 pub mod Rules
-pub mod Seen
 pub mod Bounds

@@ -9,7 +9,8 @@ use Rattle.digits.specs.UpTo.{up_to}
 use Rattle.digits.proofs.Bools.{and_both}
 use Rattle.digits.proofs.UpTo.{length-up_to, up_to-cong, filled_at}
 use Rattle.order.specs.Values.{val}
-use Rattle.component.specs.Kind.{B, C, port_use, is_input}
+use Rattle.component.specs.declared.kinds.Port.TheVariants.{B, C}
+use Rattle.component.specs.Kind.{port_use, is_input}
 use Rattle.component.specs.Row.{kind}
 use Rattle.wiring.specs.Ends.{end_port, on_side}
 use Rattle.wiring.specs.Signals.{is_offer, end_of}

@@ -10,7 +10,9 @@ use borrow.Author.Tests.{eqb-true, eqb-false, eq-eqb, ne_eqb}
 use Rattle.order.specs.Graph.{Depends, Sorted}
 use Rattle.order.proofs.ByOrder.{by_order}
 use Rattle.order.proofs.Values.{sorted-no-circle, val-rule, val-unique, val-next}
-use Rattle.component.specs.Kind.{Port, A, B, C, port_use, is_output, is_input}
+use Rattle.component.specs.declared.kinds.Port.{Port}
+use Rattle.component.specs.declared.kinds.Port.TheVariants.{A, B, C}
+use Rattle.component.specs.Kind.{port_use, is_output, is_input}
 use Rattle.component.specs.Row.{kind, port}
 use Rattle.wiring.specs.Ends.{end_port, on_side}
 use Rattle.wiring.specs.Signals.{Near, offer_a, offer_b, take_b, take_c, depends_on, has, signal_of, near_of, is_offer, end_of, dependence}

@@ -2,7 +2,7 @@
 use Rattle.std.specs.Prelude.{List, ℕ, zero, suc, ◌+◌, ◌*◌, ◌/◌, cond, get_or, eqb}
 use Rattle.digits.specs.UpTo.{up_to}
 use Rattle.order.specs.Values.{val}
-use Rattle.component.specs.Kind.{Port}
+use Rattle.component.specs.declared.kinds.Port.{Port}
 use Rattle.component.specs.Row.{kind}
 use Rattle.wiring.specs.Ends.{end_port}
 use Rattle.wiring.specs.Signals.{Near, signal_of, end_of}

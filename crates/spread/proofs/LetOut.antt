@@ -1,8 +1,8 @@
 -- What goes out at an output port, as bytes, by kind. Assumes nothing.
 use mathlib.Core.Path.{◌≡◌, refl, sym, ap, ◌∙◌}
-use mathlib.Core.Bool.{Bool, true, false, not, ◌&&◌, ◌||◌, true≢false, false≢true}
+use mathlib.Core.Bool.{Bool, true, false, not, ◌&&◌, ◌||◌, true≢false}
 use mathlib.Core.List.{List}
-use Prim.Native.Nat.{ℕ, zero, suc, ◌<◌}
+use Prim.Native.Nat.{ℕ, ◌<◌}
 use native.Mathlib.Omega.{arith}
 use lib.Bits.{bit_and, bit_or, bit_xor}
 use lib.Dec.{ltb, eqb}
@@ -10,8 +10,11 @@ use borrow.Author.Tests.{lt-ltb, eqb-true}
 use Rattle.digits.specs.Least.{some}
 use Rattle.digits.proofs.Bools.{and_both, and-false}
 use Rattle.digits.proofs.Some.{some_at, some_is, none-some}
-use Rattle.component.specs.Kind.{Kind, source, sink, queue, function, fork, join, switch, merge, Port, port_of, port_use, is_output}
-use Rattle.component.specs.Row.{first_map, second_map, map_of, mask, masked, filling, fill_colour, has_colour}
+use Rattle.component.specs.declared.kinds.Kind.{Kind}
+use Rattle.component.specs.declared.kinds.Kind.TheVariants.{Source, Sink, Queue, Function, Fork, Join, Switch, Merge}
+use Rattle.component.specs.declared.kinds.Port.{Port}
+use Rattle.component.specs.declared.kinds.Port.TheVariants.{A, B, C}
+use Rattle.component.specs.Row.{first_map, second_map, mask, masked, filling, fill_colour, has_colour}
 use Rattle.component.specs.Facts.{RowFacts}
 use Rattle.component.proofs.Masks.{some-bit}
 use Rattle.component.proofs.Sets.{has-none, has-and, has-less}
@@ -42,15 +45,15 @@ module _ {colours : ℕ} {row : List ℕ} {a b : ℕ} (k : Fed colours row a b) 
   own : (bits : ℕ) → IsSet bits (has_colour bits)
   own bits = record { has = λ d l. refl }
 
-  pub out-source : (p : Port) → Lets colours row a b source p (mask row)
+  pub out-source : (p : Port) → Lets colours row a b Source p (mask row)
   unfolding passed
   out-source p = within k.facts.masks (own (mask row))
 
-  pub out-sink : (p : Port) → Lets colours row a b sink p 0
+  pub out-sink : (p : Port) → Lets colours row a b Sink p 0
   unfolding passed
   out-sink p = within (λ d l e. absurd (true≢false (sym e))) (set-none (λ d. false) (λ d l. refl))
 
-  pub out-queue : (p : Port) {r : ℕ} → IsSet r (λ d. ltb 0 (filling row) && eqb (fill_colour row) d) → Lets colours row a b queue p (bit_or a r)
+  pub out-queue : (p : Port) {r : ℕ} → IsSet r (λ d. ltb 0 (filling row) && eqb (fill_colour row) d) → Lets colours row a b Queue p (bit_or a r)
   unfolding passed
   out-queue p h = within (λ d l e. low d l (has_colour a d) refl e) (set-or (own a) h)
     where
@@ -67,27 +70,37 @@ module _ {colours : ℕ} {row : List ℕ} {a b : ℕ} (k : Fed colours row a b) 
       let q = eqb-true (map m.0) d (and_both (eqb (map m.0) d) (has_colour a m.0) m.2).0 in
       omega (arith, low m.0 m.1)
 
-  pub out-function : (p : Port) {r : ℕ} → IsSet r (image colours (first_map row) (has_colour a)) → Lets colours row a b function p r
+  pub out-function : (p : Port) {r : ℕ} → IsSet r (image colours (first_map row) (has_colour a)) → Lets colours row a b Function p r
   unfolding passed
   out-function p h = within (λ d l. image-below (first_map row) k.facts.first_maps d) h
 
-  -- port p of a fork has the second map if p is C
-  pub out-fork : (p : ℕ) → p < 3 → is_output (port_use fork (port_of p)) ≡ true → {r : ℕ} → IsSet r (image colours (map_of (eqb p 2) row) (has_colour a)) → Lets colours row a b fork (port_of p) r
-  unfolding passed port_use port_of
-  out-fork zero l o h = absurd (false≢true o)
-  out-fork (suc zero) l o h = within (λ d l. image-below (first_map row) k.facts.first_maps d) h
-  out-fork (suc (suc zero)) l o h = within (λ d l. image-below (second_map row) k.facts.second_maps d) h
-  out-fork (suc (suc (suc p))) l o h = absurd (omega arith)
+  -- nothing goes out at port A of a fork or a switch
+  pub out-fork-A : Lets colours row a b Fork A 0
+  unfolding passed
+  out-fork-A = within (λ d l e. absurd (true≢false (sym e))) (set-none (λ d. false) (λ d l. refl))
+
+  pub out-switch-A : Lets colours row a b Switch A 0
+  unfolding passed
+  out-switch-A = within (λ d l e. absurd (true≢false (sym e))) (set-none (λ d. false) (λ d l. refl))
+
+  -- port B of a fork has the first map, port C the second
+  pub out-fork-B : {r : ℕ} → IsSet r (image colours (first_map row) (has_colour a)) → Lets colours row a b Fork B r
+  unfolding passed
+  out-fork-B h = within (λ d l. image-below (first_map row) k.facts.first_maps d) h
+
+  pub out-fork-C : {r : ℕ} → IsSet r (image colours (second_map row) (has_colour a)) → Lets colours row a b Fork C r
+  unfolding passed
+  out-fork-C h = within (λ d l. image-below (second_map row) k.facts.second_maps d) h
 
   -- a token that never comes
-  pub out-join-none : (p : Port) → b ≡ 0 → Lets colours row a b join p 0
+  pub out-join-none : (p : Port) → b ≡ 0 → Lets colours row a b Join p 0
   unfolding passed
   out-join-none p z = within (λ d l e. absurd (true≢false (sym e ∙ none d))) (set-none _ (λ d l. none d))
     where
       none : (d : ℕ) → (some colours (has_colour b) && image colours (first_map row) (has_colour a) d) ≡ false
       none d = ap (λ (t : Bool). t && image colours (first_map row) (has_colour a) d) (none-some (has_colour b) colours (λ e l. ap (λ (x : ℕ). has_colour x e) z ∙ has-none e))
 
-  pub out-join : (p : Port) → b < 256 → (b ≡ 0 → ⊥) → {r : ℕ} → IsSet r (image colours (first_map row) (has_colour a)) → Lets colours row a b join p r
+  pub out-join : (p : Port) → b < 256 → (b ≡ 0 → ⊥) → {r : ℕ} → IsSet r (image colours (first_map row) (has_colour a)) → Lets colours row a b Join p r
   unfolding passed
   out-join p l nz h =
       let m = some-bit b l (omega arith) in
@@ -97,18 +110,16 @@ module _ {colours : ℕ} {row : List ℕ} {a b : ℕ} (k : Fed colours row a b) 
   gate-below : (g : ℕ → Bool) (d : ℕ) → d < 8 → (has_colour a d && g d) ≡ true → d < colours
   gate-below g d l t = k.below_a.below d l (and_both (has_colour a d) (g d) t).0
 
-  -- port p of a switch has the colours of the mask if p is B, else the others
-  pub out-switch-B : (p : ℕ) → p ≡ 1 → Lets colours row a b switch (port_of p) (bit_and a (mask row))
-  unfolding passed port_of
-  out-switch-B p e = rw e (within (gate-below (masked row)) (record { has = λ d l. has-and a (mask row) d }))
+  -- port B of a switch has the colours of the mask, port C the others
+  pub out-switch-B : Lets colours row a b Switch B (bit_and a (mask row))
+  unfolding passed
+  out-switch-B = within (gate-below (masked row)) (record { has = λ d l. has-and a (mask row) d })
 
-  pub out-switch-C : (p : ℕ) → is_output (port_use switch (port_of p)) ≡ true → (p ≡ 1 → ⊥) → Lets colours row a b switch (port_of p) (bit_xor a (bit_and a (mask row)))
-  unfolding passed port_use port_of
-  out-switch-C zero o n = absurd (false≢true o)
-  out-switch-C (suc zero) o n = absurd (n refl)
-  out-switch-C (suc (suc p)) o n = within (gate-below (λ d. not (masked row d))) (record { has = λ d l. has-less a (mask row) d })
+  pub out-switch-C : Lets colours row a b Switch C (bit_xor a (bit_and a (mask row)))
+  unfolding passed
+  out-switch-C = within (gate-below (λ d. not (masked row d))) (record { has = λ d l. has-less a (mask row) d })
 
-  pub out-merge : (p : Port) → Lets colours row a b merge p (bit_or a b)
+  pub out-merge : (p : Port) → Lets colours row a b Merge p (bit_or a b)
   unfolding passed
   out-merge p = within (λ d l e. low d l (has_colour a d) refl e) (set-or (own a) (own b))
     where

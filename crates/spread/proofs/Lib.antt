@@ -1,6 +1,5 @@
 pub mod Sets
 pub mod LetOut
-pub mod Adding
 pub mod PassOut
 pub mod Targets
 pub mod PassOn

@@ -1,18 +1,22 @@
 -- One component at all its output ports. Assumes nothing.
-use mathlib.Core.Path.{◌≡◌, refl, sym, ap, ◌∙◌}
+use mathlib.Core.Path.{◌≡◌, refl, sym, subst, ◌∙◌}
 use mathlib.Core.Logic.{◌⊎◌, inl, inr}
-use mathlib.Core.Bool.{Bool, true, false, not, ◌&&◌, ◌||◌, true≢false, false≢true}
+use mathlib.Core.Bool.{true, false, false≢true}
 use mathlib.Core.List.{List}
 use Prim.Native.Nat.{ℕ, ◌≤◌, ◌<◌}
 use native.Mathlib.Omega.{arith}
-use lib.Dec.{eqb}
-use Rattle.component.specs.Kind.{Kind, sink, Port, A, B, C, port_of, port_use, is_output}
+use lib.ListN.{length}
+use Rattle.component.specs.declared.kinds.Kind.{Kind}
+use Rattle.component.specs.declared.kinds.Kind.TheVariants.{Source, Sink, Queue, Function, Fork, Join, Switch, Merge}
+use Rattle.component.specs.declared.kinds.Port.{Port}
+use Rattle.component.specs.declared.kinds.Port.TheVariants.{A, B, C}
+use Rattle.component.specs.Kind.{port_use, is_output}
 use Rattle.netlist.specs.Netlist.{Netlist}
-use Rattle.spread.specs.Spread.{Outputs, Spreading, Covered, PassedOn}
+use Rattle.spread.specs.Spread.{Spreading, Covered, PassedOn}
 
-module _ {f : Netlist} {next : ℕ} {sets list : List ℕ} {n : ℕ} {k : ℕ} where
+module _ {f : Netlist} {next : ℕ} {sets list : List ℕ} {k : ℕ} where
   -- at none
-  pub pass-none : (done : Port → Type 0) → Spreading f sets list n → ((p : Port) → done p → ⊥) → PassedOn f next sets list n sets list n done k
+  pub pass-none : (done : Port → Type 0) → Spreading f sets list → ((p : Port) → done p → ⊥) → PassedOn f next sets list sets list done k
   pass-none done s never = record {
     spreading = s;
     onward = record { more = omega arith; keeps = λ from j l m p c. c };
@@ -20,13 +24,13 @@ module _ {f : Netlist} {next : ℕ} {sets list : List ℕ} {n : ℕ} {k : ℕ} w
   }
 
   -- at one
-  pub pass-one : {sets' list' : List ℕ} {n' : ℕ} (done : Port → Type 0) {p : Port} → PassedOn f next sets list n sets' list' n' (λ q. q ≡ p) k → ((q : Port) → done q → q ≡ p) → PassedOn f next sets list n sets' list' n' done k
+  pub pass-one : {sets' list' : List ℕ} (done : Port → Type 0) {p : Port} → PassedOn f next sets list sets' list' (λ q. q ≡ p) k → ((q : Port) → done q → q ≡ p) → PassedOn f next sets list sets' list' done k
   pass-one done h only = record { spreading = h.spreading; onward = h.onward; covers = λ from l q d. h.covers from l q (only q d) }
 
   -- at one, then at another
-  pub pass-two : {sets' list' sets'' list'' : List ℕ} {n' n'' : ℕ} (done : Port → Type 0) {p r : Port} → k < next → PassedOn f next sets list n sets' list' n' (λ q. q ≡ p) k
-      → PassedOn f next sets' list' n' sets'' list'' n'' (λ q. q ≡ r) k → ((q : Port) → done q → (q ≡ p) ⊎ (q ≡ r)) → PassedOn f next sets list n sets'' list'' n'' done k
-  pass-two {sets'} {list'} {sets''} {list''} {n'} {n''} done {p} {r} low h g either = record {
+  pub pass-two : {sets' list' sets'' list'' : List ℕ} (done : Port → Type 0) {p r : Port} → k < next → PassedOn f next sets list sets' list' (λ q. q ≡ p) k
+      → PassedOn f next sets' list' sets'' list'' (λ q. q ≡ r) k → ((q : Port) → done q → (q ≡ p) ⊎ (q ≡ r)) → PassedOn f next sets list sets'' list'' done k
+  pass-two {sets'} {list'} {sets''} {list''} done {p} {r} low h g either = record {
     spreading = g.spreading;
     onward = record {
       more = omega (arith, h.onward.more, g.onward.more);
@@ -35,45 +39,106 @@ module _ {f : Netlist} {next : ℕ} {sets list : List ℕ} {n : ℕ} {k : ℕ} w
     covers = λ from l q d. by-port from l q (either q d);
   }
     where
-      by-port : (from : ℕ) → from ≤ n → (q : Port) → (q ≡ p) ⊎ (q ≡ r) → Covered f from sets'' list'' n'' k q
+      by-port : (from : ℕ) → from ≤ length list → (q : Port) → (q ≡ p) ⊎ (q ≡ r) → Covered f from sets'' list'' k q
       by-port from l q (inl e) = g.onward.keeps from k (omega (arith, h.onward.more)) low q (h.covers from l q e)
       by-port from l q (inr e) = g.covers from (omega (arith, h.onward.more)) q e
 
--- a sink has no output port
-pub no_output : (n : Kind) → n ≡ sink → (p : Port) → is_output (port_use n p) ≡ true → ⊥
+-- ---- the output ports by the kind that was read
+abbrev pub OutputOf : Kind → Port → Type 0
+OutputOf n p = is_output (port_use n p) ≡ true
+
+no : {X : Type 0} → false ≡ true → X
+no e = absurd (false≢true e)
+
+source_only : (p : Port) → OutputOf Source p → p ≡ A
 unfolding port_use
-no_output n e A o = false≢true (ap (λ (m : Kind). is_output (port_use m A)) (sym e) ∙ o)
-no_output n e B o = false≢true (ap (λ (m : Kind). is_output (port_use m B)) (sym e) ∙ o)
-no_output n e C o = false≢true (ap (λ (m : Kind). is_output (port_use m C)) (sym e) ∙ o)
+source_only A o = refl
+source_only B o = no o
+source_only C o = no o
 
--- whether there are two
-not-either : (a b : Bool) → (not a && not b) ≡ true → (a || b) ≡ false
-not-either true b e = absurd (false≢true e)
-not-either false true e = absurd (false≢true e)
-not-either false false e = refl
+sink_none : (p : Port) → OutputOf Sink p → ⊥
+unfolding port_use
+sink_none A o = no o
+sink_none B o = no o
+sink_none C o = no o
 
-either-one : (a b : Bool) → (not a && not b) ≡ false → (a || b) ≡ true
-either-one true b e = refl
-either-one false true e = refl
-either-one false false e = absurd (true≢false e)
+queue_only : (p : Port) → OutputOf Queue p → p ≡ B
+unfolding port_use
+queue_only A o = no o
+queue_only B o = refl
+queue_only C o = no o
 
-pub one_only : (kind : ℕ) → (not (eqb kind 4) && not (eqb kind 6)) ≡ true → (eqb kind 4 || eqb kind 6) ≡ false
-one_only kind = not-either (eqb kind 4) (eqb kind 6)
+function_only : (p : Port) → OutputOf Function p → p ≡ B
+unfolding port_use
+function_only A o = no o
+function_only B o = refl
+function_only C o = no o
 
-pub two-there : (kind : ℕ) → (not (eqb kind 4) && not (eqb kind 6)) ≡ false → (eqb kind 4 || eqb kind 6) ≡ true
-two-there kind = either-one (eqb kind 4) (eqb kind 6)
+fork_two : (p : Port) → OutputOf Fork p → (p ≡ B) ⊎ (p ≡ C)
+unfolding port_use
+fork_two A o = no o
+fork_two B o = inl refl
+fork_two C o = inr refl
 
-module _ {n : Kind} {first : ℕ} {two : Bool} (o : Outputs n first two) where
-  pub only-first : two ≡ false → (p : Port) → is_output (port_use n p) ≡ true → p ≡ port_of first
-  only-first e p i = go (o.all p i)
-    where
-      go : (p ≡ port_of first) ⊎ ((two ≡ true) × (p ≡ C)) → p ≡ port_of first
-      go (inl q) = q
-      go (inr q) = absurd (true≢false (sym q.0 ∙ e))
+join_only : (p : Port) → OutputOf Join p → p ≡ C
+unfolding port_use
+join_only A o = no o
+join_only B o = no o
+join_only C o = refl
 
-  pub first-or-C : (p : Port) → is_output (port_use n p) ≡ true → (p ≡ port_of first) ⊎ (p ≡ C)
-  first-or-C p i = go (o.all p i)
-    where
-      go : (p ≡ port_of first) ⊎ ((two ≡ true) × (p ≡ C)) → (p ≡ port_of first) ⊎ (p ≡ C)
-      go (inl q) = inl q
-      go (inr q) = inr q.1
+switch_two : (p : Port) → OutputOf Switch p → (p ≡ B) ⊎ (p ≡ C)
+unfolding port_use
+switch_two A o = no o
+switch_two B o = inl refl
+switch_two C o = inr refl
+
+merge_only : (p : Port) → OutputOf Merge p → p ≡ C
+unfolding port_use
+merge_only A o = no o
+merge_only B o = no o
+merge_only C o = refl
+
+module _ {n r : Kind} (read : n ≡ r) where
+  -- of kind m
+  of : {m : Kind} (p : Port) → n ≡ m → OutputOf r p → OutputOf m p
+  of p e o = subst (λ (t : Kind). OutputOf t p) (sym read ∙ e) o
+
+  is : {m : Kind} (p : Port) → n ≡ m → OutputOf m p → OutputOf r p
+  is p e o = subst (λ (t : Kind). OutputOf t p) (sym e ∙ read) o
+
+  pub out_a : n ≡ Source → OutputOf r A
+  unfolding port_use
+  out_a e = is A e refl
+
+  pub only_a : n ≡ Source → (p : Port) → OutputOf r p → p ≡ A
+  only_a e p o = source_only p (of p e o)
+
+  pub out_none : n ≡ Sink → (p : Port) → OutputOf r p → ⊥
+  out_none e p o = sink_none p (of p e o)
+
+  pub out_b : (n ≡ Queue) ⊎ (n ≡ Function) → OutputOf r B
+  unfolding port_use
+  out_b (inl e) = is B e refl
+  out_b (inr e) = is B e refl
+
+  pub only_b : (n ≡ Queue) ⊎ (n ≡ Function) → (p : Port) → OutputOf r p → p ≡ B
+  only_b (inl e) p o = queue_only p (of p e o)
+  only_b (inr e) p o = function_only p (of p e o)
+
+  pub out_c : (n ≡ Join) ⊎ (n ≡ Merge) → OutputOf r C
+  unfolding port_use
+  out_c (inl e) = is C e refl
+  out_c (inr e) = is C e refl
+
+  pub only_c : (n ≡ Join) ⊎ (n ≡ Merge) → (p : Port) → OutputOf r p → p ≡ C
+  only_c (inl e) p o = join_only p (of p e o)
+  only_c (inr e) p o = merge_only p (of p e o)
+
+  pub out_both : (n ≡ Fork) ⊎ (n ≡ Switch) → OutputOf r B × OutputOf r C
+  unfolding port_use
+  out_both (inl e) = (is B e refl, is C e refl)
+  out_both (inr e) = (is B e refl, is C e refl)
+
+  pub only_both : (n ≡ Fork) ⊎ (n ≡ Switch) → (p : Port) → OutputOf r p → (p ≡ B) ⊎ (p ≡ C)
+  only_both (inl e) p o = fork_two p (of p e o)
+  only_both (inr e) p o = switch_two p (of p e o)

@@ -2,21 +2,24 @@
 use mathlib.Core.Path.{◌≡◌, refl, sym, ap, subst, ◌∙◌}
 use mathlib.Core.Logic.{◌⊎◌, inl, inr}
 use mathlib.Core.Bool.{Bool, true, false, cond, not, ◌&&◌, ◌||◌, true≢false, false≢true}
-use mathlib.Core.List.{List}
+use mathlib.Core.List.{List, [], ◌∷◌, ◌++◌}
 use Prim.Native.Nat.{ℕ, ◌+◌, ◌*◌, ◌/◌, ◌%◌, ◌≤◌, ◌<◌}
 use native.Mathlib.Decide.{ℕ_discrete}
 use native.Mathlib.Omega.{arith}
 use lib.Bits.{or_lt}
 use lib.Dec.{ltb, eqb}
-use lib.ListN.{length, get_or, set, length-set}
-use lib.Seq.{get_or-set_same, get_or-set_other}
+use lib.ListN.{length, get_or, set, length-set, get_or-append}
+use lib.Seq.{get_or-set_same, get_or-set_other, get_or-append_seam}
+use Rattle.std.proofs.lemmas.List.{length-append}
 use borrow.Author.Tests.{ltb-true, ltb-false, lt-ltb, eqb-true, eqb-false, not-true}
 use Rattle.digits.specs.Count.{count}
 use Rattle.digits.specs.Least.{some}
 use Rattle.digits.proofs.Bools.{and_both, and-false, both_true, or_left, or_right}
 use Rattle.digits.proofs.Count.{count-le, count-more, count-new}
 use Rattle.digits.proofs.Some.{some_is, some-none}
-use Rattle.component.specs.Kind.{Port, A, B, C, port_use, is_input, is_output}
+use Rattle.component.specs.declared.kinds.Port.{Port}
+use Rattle.component.specs.declared.kinds.Port.TheVariants.{A, B, C}
+use Rattle.component.specs.Kind.{port_use, is_input, is_output}
 use Rattle.component.specs.Limits.{most_flows}
 use Rattle.component.specs.Row.{kind, port, has_colour}
 use Rattle.component.proofs.Sets.{has-or, byte-is}
@@ -29,19 +32,19 @@ use Rattle.reach.proofs.Reaches.{passed-reaches, reaches-below}
 use Rattle.spread.specs.Spread.{IsSet, Below, in_bytes, Targets, grown_set, listed, Spreading, Waits, Covered, PassedOn}
 
 -- component k at its output port p, where more is what it lets out
-pub record Passing (f : Netlist) (targets : List ℕ) (next : ℕ) (sets list : List ℕ) (n k : ℕ) (p : Port) (more : ℕ) : Type 0 where
+pub record Passing (f : Netlist) (targets : List ℕ) (next : ℕ) (sets list : List ℕ) (k : ℕ) (p : Port) (more : ℕ) : Type 0 where
   pub ends : List ℕ
   pub order : List ℕ
   pub accepted : AcceptedFabric f ends order
   pub targeted : Targets f f.components targets
-  pub spreading : Spreading f sets list n
+  pub spreading : Spreading f sets list
   pub turn : k < next
   pub within : next ≤ f.components
   pub output : is_output (port_use (kind (row_of f k)) p) ≡ true
   pub fits : more < 256
   pub lets : IsSet more (λ d. ltb d f.colours && passed (kind (row_of f k)) p f.colours (row_of f k) (has_colour (get_or sets (port (row_of f k) A) 0)) (has_colour (get_or sets (port (row_of f k) B) 0)) d)
 
-module _ {f : Netlist} {targets sets list : List ℕ} {next n k more : ℕ} {p : Port} (h : Passing f targets next sets list n k p more) where
+module _ {f : Netlist} {targets sets list : List ℕ} {next k more : ℕ} {p : Port} (h : Passing f targets next sets list k p more) where
   low : k < f.components
   low = omega (arith, h.turn, h.within)
 
@@ -189,40 +192,40 @@ module _ {f : Netlist} {targets sets list : List ℕ} {next n k more : ℕ} {p :
   is-new b e = eqb-false _ _ (not-true (eqb (grown_set sets x more) (get_or sets x 0)) (and_both (not (eqb (grown_set sets x more) (get_or sets x 0))) b e).0)
 
   -- so there is room on the list
-  room : listed sets targets next x more ≡ true → n < most_flows
+  room : listed sets targets next x more ≡ true → length list < most_flows
   unfolding members
   room e = omega (arith, members-new (is-new (ltb (get_or targets x 0) next) e), h.spreading.few, count-le (λ v. in_bytes after (v / 8) (v % 8)) (8 * f.channels), h.accepted.few_channels)
 
   -- ---- the list after it
-  module _ {sets' list' : List ℕ} {n' : ℕ} (es : sets' ≡ after) (el : list' ≡ cond (listed sets targets next x more) (set list n (get_or targets x 0)) list) (en : n' ≡ cond (listed sets targets next x more) (n + 1) n) where
+  module _ {sets' list' : List ℕ} (es : sets' ≡ after) (el : list' ≡ cond (listed sets targets next x more) (list ++ get_or targets x 0 ∷ []) list) where
     -- the ways of the list
     data Way : Type 0 where
-      put : not (eqb (grown_set sets x more) (get_or sets x 0)) ≡ true → get_or targets x 0 < next → list' ≡ set list n (get_or targets x 0) → n' ≡ n + 1 → Way
-      later : next ≤ get_or targets x 0 → list' ≡ list → n' ≡ n → Way
-      old : grown_set sets x more ≡ get_or sets x 0 → list' ≡ list → n' ≡ n → Way
+      put : not (eqb (grown_set sets x more) (get_or sets x 0)) ≡ true → get_or targets x 0 < next → list' ≡ list ++ get_or targets x 0 ∷ [] → length list' ≡ length list + 1 → Way
+      later : next ≤ get_or targets x 0 → list' ≡ list → length list' ≡ length list → Way
+      old : grown_set sets x more ≡ get_or sets x 0 → list' ≡ list → length list' ≡ length list → Way
 
     way : Way
-    way = go (not (eqb (grown_set sets x more) (get_or sets x 0))) refl (ltb (get_or targets x 0) next) refl el en
+    way = go (not (eqb (grown_set sets x more) (get_or sets x 0))) refl (ltb (get_or targets x 0) next) refl el
       where
-        go : (b : Bool) → not (eqb (grown_set sets x more) (get_or sets x 0)) ≡ b → (c : Bool) → ltb (get_or targets x 0) next ≡ c → list' ≡ cond (b && c) (set list n (get_or targets x 0)) list → n' ≡ cond (b && c) (n + 1) n → Way
-        go true q true r a b = put q (ltb-true (get_or targets x 0) next r) a b
-        go true q false r a b = later (ltb-false (get_or targets x 0) next r) a b
-        go false q c r a b = old (eqb-true (grown_set sets x more) (get_or sets x 0) (not-false (eqb (grown_set sets x more) (get_or sets x 0)) q)) a b
+        go : (b : Bool) → not (eqb (grown_set sets x more) (get_or sets x 0)) ≡ b → (c : Bool) → ltb (get_or targets x 0) next ≡ c → list' ≡ cond (b && c) (list ++ get_or targets x 0 ∷ []) list → Way
+        go true q true r a = put q (ltb-true (get_or targets x 0) next r) a (ap length a ∙ length-append list (get_or targets x 0 ∷ []))
+        go true q false r a = later (ltb-false (get_or targets x 0) next r) a (ap length a)
+        go false q c r a = old (eqb-true (grown_set sets x more) (get_or sets x 0) (not-false (eqb (grown_set sets x more) (get_or sets x 0)) q)) a (ap length a)
 
-    more-listed : n ≤ n'
+    more-listed : length list ≤ length list'
     more-listed = go way
       where
-        go : Way → n ≤ n'
+        go : Way → length list ≤ length list'
         go (put q l a b) = omega arith
         go (later l a b) = omega arith
         go (old q a b) = omega arith
 
     -- who waited still waits
-    still-waits : (from j : ℕ) → Waits list from n j → Waits list' from n' j
+    still-waits : (from j : ℕ) → Waits list from j → Waits list' from j
     still-waits from j (i, lo, hi, e) = go way
       where
-        go : Way → Waits list' from n' j
-        go (put q l a b) = (i, lo, omega arith, ap (λ (w : List ℕ). get_or w i 0) a ∙ get_or-set_other list n i (get_or targets x 0) 0 (λ z. omega arith) ∙ e)
+        go : Way → Waits list' from j
+        go (put q l a b) = (i, lo, omega arith, ap (λ (w : List ℕ). get_or w i 0) a ∙ get_or-append list (get_or targets x 0 ∷ []) 0 i hi ∙ e)
         go (later l a b) = (i, lo, omega arith, ap (λ (w : List ℕ). get_or w i 0) a ∙ e)
         go (old q a b) = (i, lo, omega arith, ap (λ (w : List ℕ). get_or w i 0) a ∙ e)
 
@@ -234,7 +237,7 @@ module _ {f : Netlist} {targets sets list : List ℕ} {next n k more : ℕ} {p :
     Quiet j = (q : Port) → Same j q
 
     -- or it waits
-    quiet-or-waits : (j : ℕ) → j < next → Quiet j ⊎ ((from : ℕ) → from ≤ n → Waits list' from n' j)
+    quiet-or-waits : (j : ℕ) → j < next → Quiet j ⊎ ((from : ℕ) → from ≤ length list → Waits list' from j)
     quiet-or-waits j l = go way
       where
         row : List ℕ
@@ -254,10 +257,9 @@ module _ {f : Netlist} {targets sets list : List ℕ} {next n k more : ℕ} {p :
         takes : (q : Port) → is_input (port_use (kind row) q) ≡ true → port row q ≡ x → get_or targets x 0 ≡ j
         takes q i e = ap (λ (w : ℕ). get_or targets w 0) (sym e) ∙ h.targeted.at j (omega (arith, l, h.within)) q i
 
-        here : not (eqb (grown_set sets x more) (get_or sets x 0)) ≡ true → get_or targets x 0 < next → list' ≡ set list n (get_or targets x 0) → n' ≡ n + 1 → get_or targets x 0 ≡ j → (from : ℕ) → from ≤ n → Waits list' from n' j
+        here : not (eqb (grown_set sets x more) (get_or sets x 0)) ≡ true → get_or targets x 0 < next → list' ≡ list ++ get_or targets x 0 ∷ [] → length list' ≡ length list + 1 → get_or targets x 0 ≡ j → (from : ℕ) → from ≤ length list → Waits list' from j
         here q g a b e from m =
-            let l = room (both_true q (lt-ltb (get_or targets x 0) next g)) in
-            (n, m, omega arith, ap (λ (w : List ℕ). get_or w n 0) a ∙ get_or-set_same list n (get_or targets x 0) 0 (omega (arith, l, h.spreading.list_long)) ∙ e)
+            (length list, m, omega arith, ap (λ (w : List ℕ). get_or w (length list) 0) a ∙ get_or-append_seam list (get_or targets x 0) [] 0 ∙ e)
 
         by-input : (q : Port) → Dec (port row q ≡ x) → Same j q ⊎ (get_or targets x 0 ≡ j)
         by-input q (no z) = inl (λ i. unread q z)
@@ -278,11 +280,11 @@ module _ {f : Netlist} {targets sets list : List ℕ} {next n k more : ℕ} {p :
             all B = b
             all C = c
 
-        or-here : Quiet j ⊎ (get_or targets x 0 ≡ j) → (get_or targets x 0 ≡ j → (from : ℕ) → from ≤ n → Waits list' from n' j) → Quiet j ⊎ ((from : ℕ) → from ≤ n → Waits list' from n' j)
+        or-here : Quiet j ⊎ (get_or targets x 0 ≡ j) → (get_or targets x 0 ≡ j → (from : ℕ) → from ≤ length list → Waits list' from j) → Quiet j ⊎ ((from : ℕ) → from ≤ length list → Waits list' from j)
         or-here (inl q) g = inl q
         or-here (inr e) g = inr (g e)
 
-        go : Way → Quiet j ⊎ ((from : ℕ) → from ≤ n → Waits list' from n' j)
+        go : Way → Quiet j ⊎ ((from : ℕ) → from ≤ length list → Waits list' from j)
         go (old g a b) = inl (λ q i. same g q)
         go (put g m a b) = or-here (all-inputs (by-input A (ℕ_discrete (port row A) x)) (by-input B (ℕ_discrete (port row B) x)) (by-input C (ℕ_discrete (port row C) x))) (here g m a b)
         go (later m a b) = inl (λ q i. unread q (λ e. omega (arith, takes q i e)))
@@ -295,77 +297,67 @@ module _ {f : Netlist} {targets sets list : List ℕ} {next n k more : ℕ} {p :
         both_true z.0
         (passed-more f.colours r (in_bytes after (port r A)) (in_bytes after (port r B)) (in_bytes sets (port r A)) (in_bytes sets (port r B)) d (ltb-true d f.colours z.0) (kind r) q (quiet A) (quiet B) z.1)
 
-    keeps : (from j : ℕ) → from ≤ n → j < next → (q : Port) → Covered f from sets list n j q → Covered f from after list' n' j q
+    keeps : (from j : ℕ) → from ≤ length list → j < next → (q : Port) → Covered f from sets list j q → Covered f from after list' j q
     keeps from j l m q (inr w) = inr (still-waits from j w)
     keeps from j l m q (inl o) = go (quiet-or-waits j m)
       where
-        go : Quiet j ⊎ ((from : ℕ) → from ≤ n → Waits list' from n' j) → Covered f from after list' n' j q
+        go : Quiet j ⊎ ((from : ℕ) → from ≤ length list → Waits list' from j) → Covered f from after list' j q
         go (inl quiet) = inl (λ d e. grows (port (row_of f j) q) d (o d (quiet-passed j quiet q d e)))
         go (inr w) = inr (w from l)
 
-    covers : (from : ℕ) → from ≤ n → Covered f from after list' n' k p
+    covers : (from : ℕ) → from ≤ length list → Covered f from after list' k p
     covers from l = go (quiet-or-waits k h.turn)
       where
-        go : Quiet k ⊎ ((from : ℕ) → from ≤ n → Waits list' from n' k) → Covered f from after list' n' k p
+        go : Quiet k ⊎ ((from : ℕ) → from ≤ length list → Waits list' from k) → Covered f from after list' k p
         go (inl quiet) = inl (λ d e. passed-more-bits d (quiet-passed k quiet p d e))
         go (inr w) = inr (w from l)
 
-    spread-on : Spreading f after list' n'
+    spread-on : Spreading f after list'
     unfolding members
     spread-on = record {
       sets_long = length-set sets x (grown_set sets x more) ∙ h.spreading.sets_long;
-      list_long = long way;
       small = small;
       inside = inside;
       few = enough way;
       named = names way;
     }
       where
-        long : Way → length list' ≡ most_flows
-        long (put q l a b) = ap length a ∙ length-set list n (get_or targets x 0) ∙ h.spreading.list_long
-        long (later l a b) = ap length a ∙ h.spreading.list_long
-        long (old q a b) = ap length a ∙ h.spreading.list_long
-
-        enough : Way → n' ≤ members after
+        enough : Way → length list' ≤ members after
         enough (put q l a b) = omega (arith, members-new (is-new true (both_true q refl)), h.spreading.few)
         enough (later l a b) = omega (arith, members-more, h.spreading.few)
         enough (old q a b) = omega (arith, members-more, h.spreading.few)
 
-        names : Way → (i : ℕ) → i < n' → get_or list' i 0 < f.components
+        names : Way → (i : ℕ) → i < length list' → get_or list' i 0 < f.components
         names (later l a b) i m = subst (λ (w : List ℕ). get_or w i 0 < f.components) (sym a) (h.spreading.named i (omega arith))
         names (old q a b) i m = subst (λ (w : List ℕ). get_or w i 0 < f.components) (sym a) (h.spreading.named i (omega arith))
-        names (put q l a b) i m = subst (λ (w : List ℕ). get_or w i 0 < f.components) (sym a) (by_place (ℕ_discrete i n))
+        names (put q l a b) i m = subst (λ (w : List ℕ). get_or w i 0 < f.components) (sym a) (by_place (ℕ_discrete i (length list)))
           where
-            by_place : Dec (i ≡ n) → get_or (set list n (get_or targets x 0)) i 0 < f.components
-            by_place (yes e) = subst (λ (w : ℕ). get_or (set list n (get_or targets x 0)) w 0 < f.components) (sym e)
-                (subst (λ (w : ℕ). w < f.components) (sym (get_or-set_same list n (get_or targets x 0) 0 (omega (arith, room (both_true q (lt-ltb (get_or targets x 0) next l)), h.spreading.list_long)))) (omega (arith, h.within)))
-            by_place (no e) = subst (λ (w : ℕ). w < f.components) (sym (get_or-set_other list n i (get_or targets x 0) 0 e)) (h.spreading.named i (omega arith))
+            by_place : Dec (i ≡ length list) → get_or (list ++ get_or targets x 0 ∷ []) i 0 < f.components
+            by_place (yes e) = subst (λ (w : ℕ). get_or (list ++ get_or targets x 0 ∷ []) w 0 < f.components) (sym e)
+                (subst (λ (w : ℕ). w < f.components) (sym (get_or-append_seam list (get_or targets x 0) [] 0)) (omega (arith, h.within)))
+            by_place (no e) = subst (λ (w : ℕ). w < f.components) (sym (get_or-append list (get_or targets x 0 ∷ []) 0 i (omega arith))) (h.spreading.named i (omega arith))
 
-    passed_on : PassedOn f next sets list n sets' list' n' (λ q. q ≡ p) k
+    passed_on : PassedOn f next sets list sets' list' (λ q. q ≡ p) k
     passed_on =
-        subst (λ (s : List ℕ). PassedOn f next sets list n s list' n' (λ q. q ≡ p) k) (sym es)
+        subst (λ (s : List ℕ). PassedOn f next sets list s list' (λ q. q ≡ p) k) (sym es)
         (record {
           spreading = spread-on;
           onward = record { more = more-listed; keeps = keeps };
-          covers = λ from l q e. subst (λ (w : Port). Covered f from after list' n' k w) (sym e) (covers from l);
+          covers = λ from l q e. subst (λ (w : Port). Covered f from after list' k w) (sym e) (covers from l);
         })
 
   -- ---- with the channel as the code reads it
   module _ {y : ℕ} (e : y ≡ x) where
-    pub room_at : listed sets targets next y more ≡ true → n < most_flows
+    pub room_at : listed sets targets next y more ≡ true → length list < most_flows
     room_at q = room (subst (λ (w : ℕ). listed sets targets next w more ≡ true) e q)
 
-    pub passed-at : {sets' list' : List ℕ} {n' : ℕ} → (n' ≡ cond (listed sets targets next y more) (n + 1) n) × (sets' ≡ set sets y (grown_set sets y more)) × (list' ≡ cond (listed sets targets next y more) (set list n (get_or targets y 0)) list)
-        → PassedOn f next sets list n sets' list' n' (λ q. q ≡ p) k
-    passed-at {sets'} {list'} {n'} q =
+    pub passed-at : {sets' list' : List ℕ} → sets' ≡ set sets y (grown_set sets y more) → list' ≡ cond (listed sets targets next y more) (list ++ get_or targets y 0 ∷ []) list
+        → PassedOn f next sets list sets' list' (λ q. q ≡ p) k
+    passed-at {sets'} {list'} es el =
         passed_on
-        (subst (λ (w : ℕ). sets' ≡ set sets w (grown_set sets w more)) e q.1)
-        (subst (λ (w : ℕ). list' ≡ cond (listed sets targets next w more) (set list n (get_or targets w 0)) list) e q.2)
-        (subst (λ (w : ℕ). n' ≡ cond (listed sets targets next w more) (n + 1) n) e q.0)
+        (subst (λ (w : ℕ). sets' ≡ set sets w (grown_set sets w more)) e es)
+        (subst (λ (w : ℕ). list' ≡ cond (listed sets targets next w more) (list ++ get_or targets w 0 ∷ []) list) e el)
 
 -- the sets have colours below C alone
-pub below-sets : {f : Netlist} {ends order sets list : List ℕ} {n : ℕ} → AcceptedFabric f ends order → Spreading f sets list n → (y : ℕ) → y < f.channels → Below f.colours (get_or sets y 0)
+pub below-sets : {f : Netlist} {ends order sets list : List ℕ} → AcceptedFabric f ends order → Spreading f sets list → (y : ℕ) → y < f.channels → Below f.colours (get_or sets y 0)
 below-sets {f} {ends} {order} a s y l = record { below = λ d m e. (reaches-below f ends order a (s.inside y d l (both_true (lt-ltb d 8 m) e))).1 }
-
-pub list-short : {f : Netlist} {ends order sets list : List ℕ} {n : ℕ} → AcceptedFabric f ends order → Spreading f sets list n → n ≤ most_flows
-list-short {f} {ends} {order} {sets} a s = omega (arith, s.few, count-le (λ v. in_bytes sets (v / 8) (v % 8)) (8 * f.channels), a.few_channels)

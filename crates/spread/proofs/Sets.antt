@@ -1,38 +1,21 @@
 -- Bytes that have just the colours of a set. Assumes nothing.
-use mathlib.Core.Path.{◌≡◌, refl, sym, ap, ap₂, ◌∙◌}
-use mathlib.Core.Bool.{Bool, true, false, ◌&&◌, ◌||◌}
+use mathlib.Core.Path.{◌≡◌, sym, ap, ap₂, ◌∙◌}
+use mathlib.Core.Bool.{Bool, false, ◌&&◌, ◌||◌}
 use Prim.Native.Nat.{ℕ, ◌+◌, ◌/◌, ◌^◌, ◌<◌}
 use native.Mathlib.Numerals.{add-one}
 use lib.Bits.{bit_or}
-use lib.Dec.{eqb, ltb}
-use borrow.Author.Tests.{lt-ltb}
-use native.Mathlib.Omega.{arith}
-use Rattle.digits.specs.Least.{least}
+use lib.Dec.{eqb}
 use Rattle.digits.proofs.Bools.{and-swap}
 use Rattle.digits.proofs.Some.{some_more}
 use Rattle.component.proofs.Sets.{has-none, has_one, has-or}
 use Rattle.reach.specs.Rounds.{image}
 use Rattle.spread.specs.Spread.{IsSet}
 
-pub set-one : (d : ℕ) → d < 8 → IsSet (128 / 2 ^ d) (eqb d)
-set-one d l = record { has = λ e m. has_one d e l m }
+pub set_one : (d : ℕ) → d < 8 → IsSet (128 / 2 ^ d) (eqb d)
+set_one d l = record { has = λ e m. has_one d e l m }
 
 pub set-none : (s : ℕ → Bool) → ((d : ℕ) → d < 8 → s d ≡ false) → IsSet 0 s
 set-none s h = record { has = λ d l. has-none d ∙ sym (h d l) }
-
--- a set behind a gate
-pub set-open : (g : Bool) (s : ℕ → Bool) {bits : ℕ} → g ≡ true → IsSet bits s → IsSet bits (λ d. g && s d)
-set-open g s e h = record { has = λ d l. h.has d l ∙ sym (ap (λ (b : Bool). b && s d) e) }
-
-pub set-shut : (g : Bool) (s : ℕ → Bool) → g ≡ false → IsSet 0 (λ d. g && s d)
-set-shut g s e = set-none (λ d. g && s d) (λ d l. ap (λ (b : Bool). b && s d) e)
-
--- whether a queue is filled
-pub empty-is : {x y : ℕ} → x ≡ y → x ≡ 0 → ltb 0 y ≡ false
-empty-is e z = rw (← e, z)
-
-pub filled_is : {x y : ℕ} → x ≡ y → (x ≡ 0 → ⊥) → ltb 0 y ≡ true
-filled_is {x} {y} e z = lt-ltb 0 y (omega arith)
 
 -- the union
 pub set-or : {a b : ℕ} {s t : ℕ → Bool} → IsSet a s → IsSet b t → IsSet (bit_or a b) (λ d. s d || t d)
@@ -41,11 +24,7 @@ set-or {a} {b} h k = record { has = λ d l. has-or a b d ∙ ap₂ (λ (x y : Bo
 pub set_same : {a : ℕ} {s t : ℕ → Bool} → ((d : ℕ) → d < 8 → s d ≡ t d) → IsSet a s → IsSet a t
 set_same e h = record { has = λ d l. h.has d l ∙ e d l }
 
--- what a map makes of no colours, and of one colour more
-pub image-none : (map : ℕ → ℕ) (set : ℕ → Bool) → IsSet 0 (image 0 map set)
-unfolding least
-image-none map set = set-none (image 0 map set) (λ d l. refl)
-
+-- what a map makes of one colour more
 pub image-more : (n : ℕ) (map : ℕ → ℕ) (set : ℕ → Bool) {made one c : ℕ} → IsSet made (image n map set) → c ≡ map n → IsSet one (λ d. set n && eqb c d) → IsSet (bit_or made one) (image (n + 1) map set)
 image-more n map set {made} {one} {c} h e k =
     set_same

@@ -3,8 +3,8 @@
 use Rattle.std.specs.Prelude.{◌≡◌, ◌⊎◌, Bool, true, not, ◌&&◌, List, ℕ, ◌*◌, ◌/◌, ◌%◌, ◌≤◌, ◌<◌, ltb, eqb, length, get_or}
 use Rattle.std.specs.Int.Bits.{bit_or}
 use Rattle.digits.specs.Count.{count}
-use Rattle.component.specs.Kind.{Kind, Port, C, port_of, port_use, is_input, is_output}
-use Rattle.component.specs.Limits.{most_flows}
+use Rattle.component.specs.declared.kinds.Port.{Port}
+use Rattle.component.specs.Kind.{port_use, is_input, is_output}
 use Rattle.component.specs.Row.{kind, port, has_colour}
 use Rattle.netlist.specs.Netlist.{Netlist, row_of}
 use Rattle.reach.specs.Reaches.{Reaches}
@@ -26,13 +26,6 @@ pub record MapBelow (n : ℕ) (map : ℕ → ℕ) : Type 0 where
 abbrev pub in_bytes : List ℕ → ℕ → ℕ → Bool
 in_bytes sets x d = ltb d 8 && has_colour (get_or sets x 0) d
 
--- the output ports of a kind: the first, and C where there are two
-pub record Outputs (n : Kind) (first : ℕ) (two : Bool) : Type 0 where
-  pub low : first < 3
-  pub is : is_output (port_use n (port_of first)) ≡ true
-  pub second : two ≡ true → is_output (port_use n C) ≡ true
-  pub all : (p : Port) → is_output (port_use n p) ≡ true → (p ≡ port_of first) ⊎ ((two ≡ true) × (p ≡ C))
-
 -- targets has the component that takes from each channel, of the first n components
 pub record Targets (f : Netlist) (n : ℕ) (targets : List ℕ) : Type 0 where
   pub long : length targets ≡ 256
@@ -47,37 +40,36 @@ abbrev pub listed : List ℕ → List ℕ → ℕ → ℕ → ℕ → Bool
 listed sets targets next x more = not (eqb (grown_set sets x more) (get_or sets x 0)) && ltb (get_or targets x 0) next
 
 -- The sets are of colours that can reach their channels; the list is no longer than they have members.
-pub record Spreading (f : Netlist) (sets list : List ℕ) (n : ℕ) : Type 0 where
+pub record Spreading (f : Netlist) (sets list : List ℕ) : Type 0 where
   pub sets_long : length sets ≡ 256
-  pub list_long : length list ≡ most_flows
   pub small : (x : ℕ) → get_or sets x 0 < 256
   pub inside : (x d : ℕ) → x < f.channels → in_bytes sets x d ≡ true → Reaches f x d
-  pub few : n ≤ count (λ v. in_bytes sets (v / 8) (v % 8)) (8 * f.channels)
-  pub named : (i : ℕ) → i < n → get_or list i 0 < f.components
+  pub few : length list ≤ count (λ v. in_bytes sets (v / 8) (v % 8)) (8 * f.channels)
+  pub named : (i : ℕ) → i < length list → get_or list i 0 < f.components
 
 -- component k is on the list, from place `from` on
-abbrev pub Waits : List ℕ → ℕ → ℕ → ℕ → Type 0
-Waits list from n k = (i : ℕ) × (from ≤ i) × (i < n) × (get_or list i 0 ≡ k)
+abbrev pub Waits : List ℕ → ℕ → ℕ → Type 0
+Waits list from k = (i : ℕ) × (from ≤ i) × (i < length list) × (get_or list i 0 ≡ k)
 
 -- what component k lets out at port p is in the set there
 abbrev pub Out : Netlist → List ℕ → ℕ → Port → Type 0
 Out f sets k p = (d : ℕ) → passed_at f (in_bytes sets) k p d ≡ true → in_bytes sets (port (row_of f k) p) d ≡ true
 
 -- or the component is still on the list
-abbrev pub Covered : Netlist → ℕ → List ℕ → List ℕ → ℕ → ℕ → Port → Type 0
-Covered f from sets list n k p = Out f sets k p ⊎ Waits list from n k
+abbrev pub Covered : Netlist → ℕ → List ℕ → List ℕ → ℕ → Port → Type 0
+Covered f from sets list k p = Out f sets k p ⊎ Waits list from k
 
 -- of each output port of the first m components
-pub record CoveredTo (f : Netlist) (from : ℕ) (sets list : List ℕ) (n m : ℕ) : Type 0 where
-  pub covered : (k : ℕ) → k < m → (p : Port) → is_output (port_use (kind (row_of f k)) p) ≡ true → Covered f from sets list n k p
+pub record CoveredTo (f : Netlist) (from : ℕ) (sets list : List ℕ) (m : ℕ) : Type 0 where
+  pub covered : (k : ℕ) → k < m → (p : Port) → is_output (port_use (kind (row_of f k)) p) ≡ true → Covered f from sets list k p
 
 -- a stretch of work: what was covered of the first `next` components is so afterwards
-pub record Onward (f : Netlist) (next : ℕ) (sets list : List ℕ) (n : ℕ) (sets' list' : List ℕ) (n' : ℕ) : Type 0 where
-  pub more : n ≤ n'
-  pub keeps : (from k : ℕ) → from ≤ n → k < next → (p : Port) → Covered f from sets list n k p → Covered f from sets' list' n' k p
+pub record Onward (f : Netlist) (next : ℕ) (sets list sets' list' : List ℕ) : Type 0 where
+  pub more : length list ≤ length list'
+  pub keeps : (from k : ℕ) → from ≤ length list → k < next → (p : Port) → Covered f from sets list k p → Covered f from sets' list' k p
 
 -- such a stretch of work after which component k is covered at the ports that are done
-pub record PassedOn (f : Netlist) (next : ℕ) (sets list : List ℕ) (n : ℕ) (sets' list' : List ℕ) (n' : ℕ) (done : Port → Type 0) (k : ℕ) : Type 0 where
-  pub spreading : Spreading f sets' list' n'
-  pub onward : Onward f next sets list n sets' list' n'
-  pub covers : (from : ℕ) → from ≤ n → (p : Port) → done p → Covered f from sets' list' n' k p
+pub record PassedOn (f : Netlist) (next : ℕ) (sets list sets' list' : List ℕ) (done : Port → Type 0) (k : ℕ) : Type 0 where
+  pub spreading : Spreading f sets' list'
+  pub onward : Onward f next sets list sets' list'
+  pub covers : (from : ℕ) → from ≤ length list → (p : Port) → done p → Covered f from sets' list' k p

@@ -10,8 +10,6 @@ use Rattle.start.specs.Startable.{Startable}
 
 pub startable : (f : Netlist) (ends order : List ℕ) → AcceptedFabric f ends order → (state : List ℕ) → cell_size * f.components ≤ length state → Startable f.table f.components state
 startable f ends order a state l = record {
-  few = a.few_rows;
-  rows = omega (arith, a.long);
   states = l;
   fillings = λ k h e. omega (arith, (a.rows k h).fillings e, (a.rows k h).capacities e);
 }

@@ -5,28 +5,16 @@ use Prim.Native.Nat.{ℕ, zero, suc, ◌+◌, ◌-◌, ◌≤◌, ◌<◌}
 use native.Mathlib.Omega.{arith}
 use native.Mathlib.Numerals.{add-one}
 use native.Mathlib.Nat.{add-zero}
-use lib.ListN.{length, get_or, drop, set, replicate, length-append, length-drop, length-replicate, replicate-append-replicate}
-use lib.Seq.{paste, paste-suc, set_at, drop-cons, append_snoc, get_or-drop, drop-paste, set-append_seam, take_all, drop-length, set-get_or}
+use lib.ListN.{length, get_or, drop, set, replicate, length-append, length-replicate, replicate-append-replicate}
+use lib.Seq.{paste, set_at, drop-cons, append_snoc, set-append_seam, take_all, drop-length, set-get_or}
 use Rattle.cells.specs.Cells.{queue_colours, cell_with, Queue}
+use Rattle.cells.proofs.Cells.{queue-length, queue-count}
 use Rattle.held.specs.Values.{offered}
 use Rattle.state.specs.Step.{appended}
 use Rattle.state.specs.Updatable.{newest}
 
--- a turn of `shift`
-pub shift-turn : (q : List ℕ) (j : ℕ) → 2 + j < length q →
-    set (paste q 1 (drop 2 q) j) (1 + j) (get_or (paste q 1 (drop 2 q) j) (2 + j) 0) ≡ paste q 1 (drop 2 q) (j + 1)
-shift-turn q j h =
-    let e : 2 + j ≡ 1 + j + 1 = omega arith in
-    ap (λ (v : ℕ). set (paste q 1 (drop 2 q) j) (1 + j) v) (ap (λ (k : ℕ). get_or (paste q 1 (drop 2 q) j) k 0) e ∙ read) ∙ rw add-one (paste-suc q 1 (drop 2 q) j 0 (omega arith) long)
-  where
-    long : j < length (drop 2 q)
-    long = rw length-drop (omega arith)
-
-    read : get_or (paste q 1 (drop 2 q) j) (1 + j + 1) 0 ≡ get_or (drop 2 q) j 0
-    read =
-        let e : 1 + j + 1 ≡ 2 + j = omega arith in
-        sym (get_or-drop (1 + j) (paste q 1 (drop 2 q) j) 1 0) ∙ ap (λ (l : List ℕ). get_or l 1 0) (drop-paste q 1 (drop 2 q) j (omega arith) (omega (arith, long))) ∙
-        get_or-drop (1 + j) q 1 0 ∙ ap (λ (k : ℕ). get_or q k 0) e ∙ sym (get_or-drop 2 q j 0)
+-- what a queue's bytes say of themselves
+pub ruleset queues = (queue-length, queue-count)
 
 snoc-zero : (n : ℕ) → ◌≡◌ {A = List ℕ} (replicate n 0 ++ (0 ∷ [])) (replicate (suc n) 0)
 snoc-zero n = replicate-append-replicate n 1 0 ∙ ap (λ (m : ℕ). replicate m 0) (add-one n)

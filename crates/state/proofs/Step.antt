@@ -10,7 +10,9 @@ use lib.ListN.{length, get_or, take, drop, length-append, length-drop, get_or-ap
 use lib.Seq.{get_or_at, get_or-drop, get_or-take}
 use borrow.Author.Tests.{lt-ltb}
 use Rattle.digits.specs.UpTo.{up_to}
-use Rattle.component.specs.Kind.{Kind, source, sink, queue, function, fork, join, switch, merge, A, B, C}
+use Rattle.component.specs.declared.kinds.Kind.{Kind}
+use Rattle.component.specs.declared.kinds.Kind.TheVariants.{Source, Sink, Queue, Function, Fork, Join, Switch, Merge}
+use Rattle.component.specs.declared.kinds.Port.TheVariants.{A, B, C}
 use Rattle.component.specs.Row.{kind, port, capacity}
 use Rattle.netlist.specs.Netlist.{Netlist, row_of}
 use Rattle.cells.specs.Cells.{cell, queue_colours, cell_with, cell_size}
@@ -50,7 +52,7 @@ module _ (f : Netlist) (ends order state choices : List ℕ) (t : CanStep f ends
           rw (o, g)
 
   -- a queue's colours after the step are at most 63
-  pub queue-fits : (k : ℕ) → k < f.components → kind (row_of f k) ≡ queue →
+  pub queue-fits : (k : ℕ) → k < f.components → kind (row_of f k) ≡ Queue →
       length (appended (moved f state choices (port (row_of f k) A)) (dropped (moved f state choices (port (row_of f k) B)) (queue_colours (cell state k)))) ≤ 63
   queue-fits k h e = rw appended-length (queue-moves f ends order state choices t k h e).room
 
@@ -76,14 +78,14 @@ module _ (f : Netlist) (ends order state choices : List ℕ) (t : CanStep f ends
       after = appended (moved f state choices (port (row_of f k) A)) (dropped (moved f state choices (port (row_of f k) B)) (queue_colours (cell state k)))
 
       go : (d : Kind) → kind (row_of f k) ≡ d → length (cell_next d (component_at f state choices k) (offer_of (row_of f k) (value f state choices)) (take_of (row_of f k) (value f state choices))) ≡ cell_size
-      go source e = held-long (cell state k) (unless taken offer) long
-      go sink e = held-long (cell state k) (unless (offered offer) taken) long
-      go queue e = queue-length (cell_with after) (cell-queue after (queue-fits k h e))
-      go function e = long
-      go fork e = long
-      go join e = long
-      go switch e = long
-      go merge e = held-long (cell state k) picked long
+      go Source e = held-long (cell state k) (unless taken offer) long
+      go Sink e = held-long (cell state k) (unless (offered offer) taken) long
+      go Queue e = queue-length (cell_with after) (cell-queue after (queue-fits k h e))
+      go Function e = long
+      go Fork e = long
+      go Join e = long
+      go Switch e = long
+      go Merge e = held-long (cell state k) picked long
 
   pub next-cell : (k : ℕ) → k < f.components → cell (next f state choices) k ≡ next_at f state choices (value f state choices) k
   unfolding next state_next
@@ -131,7 +133,7 @@ module _ (f : Netlist) (ends order state choices : List ℕ) (t : CanStep f ends
   mb = moved f state choices (port (row_of f k) B)
 
   -- the colours of a queue, before and after
-  queue-below : kind (row_of f k) ≡ queue → Below f.colours (queue_colours (cell state k))
+  queue-below : kind (row_of f k) ≡ Queue → Below f.colours (queue_colours (cell state k))
   unfolding queue_colours
   queue-below e = record { each = λ j l. each j l }
     where
@@ -144,8 +146,8 @@ module _ (f : Netlist) (ends order state choices : List ℕ) (t : CanStep f ends
           let m : j < 63 = omega (arith, n, queue-count-le f state t.good k h e, (t.accepted.rows k h).capacities e) in
           rw (get_or-take (get_or (cell state k) 0 0) (drop 1 (cell state k)) j 0 n, get_or-drop 1 (cell state k) j 0, one-add) (queue-colour f state t.good k h e j m n)
 
-  queue-kept : kind (row_of f k) ≡ queue → (j : ℕ) → j < cell_size →
-      good_byte queue (row_of f k) f.colours (get_or (cell_with (appended ma (dropped mb (queue_colours (cell state k))))) 0 0) j (get_or (cell_with (appended ma (dropped mb (queue_colours (cell state k))))) j 0) ≡ true
+  queue-kept : kind (row_of f k) ≡ Queue → (j : ℕ) → j < cell_size →
+      good_byte Queue (row_of f k) f.colours (get_or (cell_with (appended ma (dropped mb (queue_colours (cell state k))))) 0 0) j (get_or (cell_with (appended ma (dropped mb (queue_colours (cell state k))))) j 0) ≡ true
   queue-kept e j l =
       let cs = queue_colours (cell state k) in
       let n = queue-count (cell state k) (queue-whole f ends order t.accepted state t.good k h e) in
@@ -162,19 +164,19 @@ module _ (f : Netlist) (ends order state choices : List ℕ) (t : CanStep f ends
 
   kept : (d : Kind) → kind (row_of f k) ≡ d → (j : ℕ) → j < cell_size → good_byte d (row_of f k) f.colours (get_or (after d) 0 0) j (get_or (after d) j 0) ≡ true
   unfolding good_byte cell_next moved
-  kept source e zero l =
+  kept Source e zero l =
       rw (source-offers f ends order t.accepted state choices k h e)
       (unless-emitted (row_of f k) (value f state choices (2 * port (row_of f k) A + 1)) (get_or (cell state k) 0 0) (get_or choices k 0) (source-held f state t.good k h e) (source-choice f choices t.allowed k h e))
-  kept source e (suc j) l = rw (get_or-drop, one-add) (rw e at (good-byte f state t.good k h (suc j) l))
-  kept sink e zero l = rw (sink-takes f ends order t.accepted state choices k h e) (lt-ltb _ _ (unless-small (offered (value f state choices (2 * port (row_of f k) A))) (or_else (get_or (cell state k) 0 0) (get_or choices k 0))))
-  kept sink e (suc j) l = rw (get_or-drop, one-add) (rw e at (good-byte f state t.good k h (suc j) l))
-  kept queue e j l = queue-kept e j l
-  kept function e j l = rw e at (good-byte f state t.good k h j l)
-  kept fork e j l = rw e at (good-byte f state t.good k h j l)
-  kept join e j l = rw e at (good-byte f state t.good k h j l)
-  kept switch e j l = rw e at (good-byte f state t.good k h j l)
-  kept merge e zero l = lt-ltb _ _ (kept_small (value f state choices (2 * port (row_of f k) C + 1)) (value f state choices (2 * port (row_of f k) C)) _ (picks-le (get_or (cell state k) 0 0) (get_or choices k 0) _ _))
-  kept merge e (suc j) l = rw (get_or-drop, one-add) (rw e at (good-byte f state t.good k h (suc j) l))
+  kept Source e (suc j) l = rw (get_or-drop, one-add) (rw e at (good-byte f state t.good k h (suc j) l))
+  kept Sink e zero l = rw (sink-takes f ends order t.accepted state choices k h e) (lt-ltb _ _ (unless-small (offered (value f state choices (2 * port (row_of f k) A))) (or_else (get_or (cell state k) 0 0) (get_or choices k 0))))
+  kept Sink e (suc j) l = rw (get_or-drop, one-add) (rw e at (good-byte f state t.good k h (suc j) l))
+  kept Queue e j l = queue-kept e j l
+  kept Function e j l = rw e at (good-byte f state t.good k h j l)
+  kept Fork e j l = rw e at (good-byte f state t.good k h j l)
+  kept Join e j l = rw e at (good-byte f state t.good k h j l)
+  kept Switch e j l = rw e at (good-byte f state t.good k h j l)
+  kept Merge e zero l = lt-ltb _ _ (kept_small (value f state choices (2 * port (row_of f k) C + 1)) (value f state choices (2 * port (row_of f k) C)) _ (picks-le (get_or (cell state k) 0 0) (get_or choices k 0) _ _))
+  kept Merge e (suc j) l = rw (get_or-drop, one-add) (rw e at (good-byte f state t.good k h (suc j) l))
 
   cell-kept : good_cell f.colours (row_of f k) (cell (next f state choices) k) ≡ true
   unfolding good_cell next_at

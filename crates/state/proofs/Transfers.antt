@@ -4,7 +4,10 @@ use mathlib.Core.Bool.{true}
 use mathlib.Core.List.{List}
 use Prim.Native.Nat.{ℕ, ◌+◌, ◌*◌, ◌<◌}
 use lib.ListN.{get_or}
-use Rattle.component.specs.Kind.{source, sink, Port, A, port_use, is_output, is_input}
+use Rattle.component.specs.declared.kinds.Kind.TheVariants.{Source, Sink}
+use Rattle.component.specs.declared.kinds.Port.{Port}
+use Rattle.component.specs.declared.kinds.Port.TheVariants.{A}
+use Rattle.component.specs.Kind.{port_use, is_output, is_input}
 use Rattle.component.specs.Row.{kind, port}
 use Rattle.netlist.specs.Netlist.{Netlist, row_of}
 use Rattle.netlist.specs.Accepted.{AcceptedFabric}
@@ -16,11 +19,11 @@ use Rattle.signals.proofs.Signals.{value-output, value-input}
 
 module _ (f : Netlist) (ends order : List ℕ) (a : AcceptedFabric f ends order) (state choices : List ℕ) (k : ℕ) (h : k < f.components) where
   -- what a source offers, and whether a sink takes
-  pub source-offers : kind (row_of f k) ≡ source → value f state choices (2 * port (row_of f k) A) ≡ or_else (get_or (cell state k) 0 0) (get_or choices k 0)
+  pub source-offers : kind (row_of f k) ≡ Source → value f state choices (2 * port (row_of f k) A) ≡ or_else (get_or (cell state k) 0 0) (get_or choices k 0)
   unfolding rule port_use
   source-offers e = rw e at (value-output f ends order a k h A state choices (rw e))
 
-  pub sink-takes : kind (row_of f k) ≡ sink → value f state choices (2 * port (row_of f k) A + 1) ≡ offered (or_else (get_or (cell state k) 0 0) (get_or choices k 0))
+  pub sink-takes : kind (row_of f k) ≡ Sink → value f state choices (2 * port (row_of f k) A + 1) ≡ offered (or_else (get_or (cell state k) 0 0) (get_or choices k 0))
   unfolding rule port_use
   sink-takes e = rw e at (value-input f ends order a k h A state choices (rw e))
 

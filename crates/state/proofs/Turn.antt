@@ -1,15 +1,17 @@
 -- Laws of the functions that write the state after a step. Assumes nothing.
 use mathlib.Core.Path.{◌≡◌, refl}
 use mathlib.Core.List.{List, [], ◌∷◌}
+use mathlib.Core.Logic.{◌⊎◌, inl, inr}
 use Prim.Native.Nat.{ℕ, zero, suc, ◌≤◌, ◌<◌}
 use native.Mathlib.Omega.{arith}
 use lib.ListN.{length, drop, set}
-use Rattle.component.specs.Kind.{Port, kind_of}
-use Rattle.component.proofs.ByKind.{middle-kind}
-use Rattle.held.specs.Values.{when, unless, offered}
+use Rattle.component.specs.declared.kinds.Kind.{Kind}
+use Rattle.component.specs.declared.kinds.Kind.TheVariants.{Function, Fork, Join, Switch}
+use Rattle.component.specs.declared.kinds.Port.{Port}
 use Rattle.rules.specs.Rules.{Component}
-use Rattle.signals.proofs.Channels.{flag_is}
 use Rattle.state.specs.Step.{cell_next}
+use Rattle.held.specs.Values.{when, unless, offered}
+use Rattle.signals.proofs.Channels.{flag_is}
 
 pub set_first : (q : List ℕ) (v : ℕ) → 0 < length q → set q 0 v ≡ v ∷ drop 1 q
 set_first [] v h = absurd (omega arith)
@@ -31,6 +33,9 @@ pub merge-holds : {offer taken : ℕ} (o t g : ℕ) → offer ≡ o → taken �
 merge-holds o t g p q = rw (p, q) (unless-offered t (when o g))
 
 -- function, fork, join and switch keep their bytes
-pub cell-rest : (k : ℕ) (c : Component) (o t : Port → ℕ) → (k ≡ 0 → ⊥) → (k ≡ 1 → ⊥) → (k ≡ 2 → ⊥) → k < 7 → c.cell ≡ cell_next (kind_of k) c o t
+pub cell-kept : {k : Kind} (c : Component) (o t : Port → ℕ) → (k ≡ Function) ⊎ ((k ≡ Fork) ⊎ ((k ≡ Join) ⊎ (k ≡ Switch))) → c.cell ≡ cell_next k c o t
 unfolding cell_next
-cell-rest k c o t = middle-kind (λ d. c.cell ≡ cell_next d c o t) refl refl refl refl k
+cell-kept c o t (inl e) = rw e
+cell-kept c o t (inr (inl e)) = rw e
+cell-kept c o t (inr (inr (inl e))) = rw e
+cell-kept c o t (inr (inr (inr e))) = rw e

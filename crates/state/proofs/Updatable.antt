@@ -8,7 +8,9 @@ use lib.Dec.{ltb}
 use lib.ListN.{length, get_or, length-drop}
 use borrow.Author.Tests.{ltb-true}
 use Rattle.digits.specs.UpTo.{up_to}
-use Rattle.component.specs.Kind.{queue, A, B, port_use}
+use Rattle.component.specs.declared.kinds.Kind.TheVariants.{Queue}
+use Rattle.component.specs.declared.kinds.Port.TheVariants.{A, B}
+use Rattle.component.specs.Kind.{port_use}
 use Rattle.component.specs.Row.{kind, port, capacity}
 use Rattle.netlist.specs.Netlist.{Netlist, row_of}
 use Rattle.cells.specs.Cells.{cell, queue_colours}
@@ -38,7 +40,7 @@ offered-cases : (a b m : ℕ) → a ≤ b → (0 < m → a + 1 ≤ b) → a + of
 offered-cases a b zero h f = omega arith
 offered-cases a b (suc m) h f = f (omega arith)
 
-module _ (f : Netlist) (ends order state choices : List ℕ) (t : CanStep f ends order state choices) (k : ℕ) (h : k < f.components) (e : kind (row_of f k) ≡ queue) where
+module _ (f : Netlist) (ends order state choices : List ℕ) (t : CanStep f ends order state choices) (k : ℕ) (h : k < f.components) (e : kind (row_of f k) ≡ Queue) where
   -- what moves out of a queue is its front, and it has one
   pub queue-out : moved f state choices (port (row_of f k) B) ≡ when (value f state choices (2 * port (row_of f k) B + 1)) (when (get_or (cell state k) 0 0) (suc (get_or (cell state k) 1 0)))
   unfolding rule port_use
@@ -78,7 +80,6 @@ module _ (f : Netlist) (ends order state choices : List ℕ) (t : CanStep f ends
       let inside = (t.accepted.rows k h).ports in
       let is = moved-is f state choices signals rest e in
       record {
-        rows = omega (arith, t.accepted.long);
         cells = cell-long state k f.components t.good.long h;
         ports = λ p. all_there f state choices signals rest e ends order t.accepted (port (row_of f k) p) (inside p);
         queues = λ q. rw (is (port (row_of f k) A) (inside A), is (port (row_of f k) B) (inside B)) (queue-moves f ends order state choices t k h q);
@@ -87,7 +88,6 @@ module _ (f : Netlist) (ends order state choices : List ℕ) (t : CanStep f ends
   pub updatable : Updatable f.table f.components state signals
   updatable = record {
     few = t.accepted.few_rows;
-    rows = omega (arith, t.accepted.long);
     states = t.good.long;
     each = movable;
   }

@@ -1,6 +1,9 @@
 -- The state after a step, from the signals.
 use Rattle.std.specs.Prelude.{List, [], ◌∷◌, ◌++◌, ℕ, zero, suc, ◌+◌, ◌*◌, drop}
-use Rattle.component.specs.Kind.{Kind, source, sink, queue, function, fork, join, switch, merge, Port, A, B, C}
+use Rattle.component.specs.declared.kinds.Kind.{Kind}
+use Rattle.component.specs.declared.kinds.Kind.TheVariants.{Source, Sink, Queue, Function, Fork, Join, Switch, Merge}
+use Rattle.component.specs.declared.kinds.Port.{Port}
+use Rattle.component.specs.declared.kinds.Port.TheVariants.{A, B, C}
 use Rattle.component.specs.Row.{kind, port}
 use Rattle.netlist.specs.Netlist.{Netlist, row_of}
 use Rattle.netlist.specs.Accepted.{AcceptedFabric}
@@ -23,18 +26,18 @@ appended (suc d) cs = cs ++ (d ∷ [])
 
 -- a component's 64 bytes after a step, where offer_at and take_at are the signals of the channel at each port
 unfoldable pub cell_next : Kind → Component → (Port → ℕ) → (Port → ℕ) → List ℕ
-cell_next queue c offer_at take_at = cell_with (appended (when (take_at A) (offer_at A)) (dropped (when (take_at B) (offer_at B)) (queue_colours c.cell)))
+cell_next Queue c offer_at take_at = cell_with (appended (when (take_at A) (offer_at A)) (dropped (when (take_at B) (offer_at B)) (queue_colours c.cell)))
 -- A source holds its colour if it was offered and not taken.
-cell_next source c offer_at take_at = unless (take_at A) (offer_at A) ∷ drop 1 c.cell
+cell_next Source c offer_at take_at = unless (take_at A) (offer_at A) ∷ drop 1 c.cell
 -- A sink holds if it took and nothing was offered.
-cell_next sink c offer_at take_at = unless (offered (offer_at A)) (take_at A) ∷ drop 1 c.cell
+cell_next Sink c offer_at take_at = unless (offered (offer_at A)) (take_at A) ∷ drop 1 c.cell
 -- A merge whose output was offered and not taken keeps its pick (1 A, 2 B, else 0).
-cell_next merge c offer_at take_at = unless (take_at C) (when (offer_at C) (suc (picks_b (held c) c.choice (offer_at A) (offer_at B)))) ∷ drop 1 c.cell
+cell_next Merge c offer_at take_at = unless (take_at C) (when (offer_at C) (suc (picks_b (held c) c.choice (offer_at A) (offer_at B)))) ∷ drop 1 c.cell
 -- All else is 0.
-cell_next function c offer_at take_at = c.cell
-cell_next fork c offer_at take_at = c.cell
-cell_next join c offer_at take_at = c.cell
-cell_next switch c offer_at take_at = c.cell
+cell_next Function c offer_at take_at = c.cell
+cell_next Fork c offer_at take_at = c.cell
+cell_next Join c offer_at take_at = c.cell
+cell_next Switch c offer_at take_at = c.cell
 
 -- the offer and the take of the channel at a port of a row, where v gives all signals
 abbrev pub offer_of : List ℕ → (ℕ → ℕ) → Port → ℕ

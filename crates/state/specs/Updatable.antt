@@ -1,11 +1,12 @@
 -- What the code asks for to write the state after a step. It holds of every step from a good state under allowed choices.
 use Rattle.std.specs.Prelude.{◌≡◌, List, ℕ, zero, suc, ◌+◌, ◌*◌, ◌≤◌, ◌<◌, length}
 use Rattle.record.specs.Table.{row}
-use Rattle.record.specs.Sizes.{row_size}
-use Rattle.component.specs.Kind.{Port, queue, A, B}
+use Rattle.component.specs.declared.kinds.Kind.TheVariants.{Queue}
+use Rattle.component.specs.declared.kinds.Port.{Port}
+use Rattle.component.specs.declared.kinds.Port.TheVariants.{A, B}
 use Rattle.component.specs.Row.{kind, port}
 use Rattle.component.specs.Limits.{most_components}
-use Rattle.cells.specs.Cells.{cell, queue_colours, Queue, cell_size}
+use Rattle.cells.specs.Cells.{cell, queue_colours, Queue as QueueCell, cell_size}
 use Rattle.held.specs.Values.{offered}
 use Rattle.signals.specs.Channels.{moved_in, There}
 use Rattle.state.specs.Step.{dropped}
@@ -17,20 +18,18 @@ newest (suc d) old = d
 
 -- what moves fits them
 pub record Moves (s : List ℕ) (ma mb : ℕ) : Type 0 where
-  pub whole : Queue s
+  pub whole : QueueCell s
   pub out : 0 < mb → 0 < length (queue_colours s)
   pub room : length (dropped mb (queue_colours s)) + offered ma ≤ 63
 
--- a component's row and its bytes, with the signals at its ports in memory: what moves fits a queue
+-- a component's bytes, with the signals at its ports in memory: what moves fits a queue
 pub record Movable (table : List ℕ) (k : ℕ) (cell signals : List ℕ) : Type 0 where
-  pub rows : row_size * k + row_size ≤ length table
   pub cells : length cell ≡ cell_size
   pub ports : (p : Port) → There signals (port (row table k) p)
-  pub queues : kind (row table k) ≡ queue → Moves cell (moved_in signals (port (row table k) A)) (moved_in signals (port (row table k) B))
+  pub queues : kind (row table k) ≡ Queue → Moves cell (moved_in signals (port (row table k) A)) (moved_in signals (port (row table k) B))
 
 -- the sizes fit, and what moves fits each queue
 pub record Updatable (table : List ℕ) (n : ℕ) (state signals : List ℕ) : Type 0 where
   pub few : n ≤ most_components
-  pub rows : row_size * n ≤ length table
   pub states : cell_size * n ≤ length state
   pub each : (k : ℕ) → k < n → Movable table k (cell state k) signals

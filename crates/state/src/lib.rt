@@ -2,7 +2,6 @@
 #![tactic(auto)]
 
 ghost use Rattle.std.specs.Prelude.{◌≡◌, ◌∷◌, suc, ◌+◌, ◌≤◌, ◌<◌, length, get_or, drop};
-ghost use Rattle.std.proofs.Math.Seq.{paste};
 ghost use Rattle.record.specs.Table.{row};
 ghost use Rattle.component.specs.Row.{kind};
 ghost use Rattle.netlist.specs.Netlist.{netlist_of};
@@ -14,142 +13,118 @@ ghost use Rattle.state.specs.Step.{dropped, appended, cell_next, offer_of, take_
 ghost use Rattle.state.specs.Updatable.{newest, Moves, Movable, Updatable};
 
 use cells::CELL_SIZE;
-use digits::wide;
-use held::{Channel, HeldMerge, HeldSink, HeldSource, Offer, byte_of_offer, offer_of_byte};
+use component::{Kind, Port, Table};
+use held::{Channel, HeldMerge, HeldSink, HeldSource, Offer, Pick};
 use netlist::Size;
-use signals::{bit_of, channel_at, moved_on, offer_at};
-
-// The bytes from 2 on move one place to the front.
-fn shift(q: &mut [u8])
-    requires { length q.old ≡ cell_size }
-    ensures { q.new ≡ paste q.old 1 (drop 2 q.old) 62 }
-{
-    let mut j: usize = 0;
-    while j < 62 {
-        q[1 + j] = q[2 + j];
-        j += 1;
-    }
-}
+use signals::{channel_at, moved_on, offer_at};
 
 // The queue without its front.
-fn drop_front(q: &mut [u8])
-    requires queue { Queue q.old }
-    requires not_empty { 0 < length (queue_colours q.old) }
-    ensures { q.new ≡ cell_with (drop 1 (queue_colours q.old)) }
+#[tactic(auto, using(crate::proofs::Queues::queues))]
+fn drop_front(queue: &mut [u8])
+    requires queue { Queue queue.old }
+    requires not_empty { 0 < length (queue_colours queue.old) }
+    ensures { queue.new ≡ cell_with (drop 1 (queue_colours queue.old)) }
 {
-    let b = q[0];
-    shift(&mut *q);
-    q[63] = 0;
-    q[0] = b - 1;
+    let count = queue[0] - 1;
+    queue.copy_within(2.., 1);
+    queue[63] = 0;
+    queue[0] = count;
 }
 
 // It drops its front if its output moved.
-fn let_out(q: &mut [u8], mb: u8)
-    requires queue { Queue q.old }
-    requires not_empty { 0 < mb → 0 < length (queue_colours q.old) }
-    ensures { q.new ≡ cell_with (dropped mb (queue_colours q.old)) }
+fn let_out(queue: &mut [u8], mb: u8)
+    requires queue { Queue queue.old }
+    requires not_empty { 0 < mb → 0 < length (queue_colours queue.old) }
+    ensures { queue.new ≡ cell_with (dropped mb (queue_colours queue.old)) }
 {
     if 0 < mb {
-        drop_front(&mut *q);
+        drop_front(queue);
     }
-}
-
-// How many came in.
-fn came_in(ma: u8) -> u8
-    ensures { result ≡ offered ma }
-{
-    if 0 < ma {
-        return 1;
-    }
-    0
 }
 
 // The colour that came in, or what stood there.
 fn colour_or(ma: u8, old: u8) -> u8
     ensures { result ≡ newest ma old }
 {
-    if 0 < ma {
-        return ma - 1;
-    }
-    old
+    if 0 < ma { ma - 1 } else { old }
 }
 
 // It appends what came in: without a branch, so that it takes the same time either way.
-fn let_in(q: &mut [u8], ma: u8)
-    requires queue { Queue q.old }
-    requires room { length (queue_colours q.old) + offered ma ≤ 63 }
-    ensures { q.new ≡ cell_with (appended ma (queue_colours q.old)) }
+#[tactic(auto, using(crate::proofs::Queues::queues, held::proofs::Values::came_byte))]
+fn let_in(queue: &mut [u8], ma: u8)
+    requires queue { Queue queue.old }
+    requires room { length (queue_colours queue.old) + offered ma ≤ 63 }
+    ensures { queue.new ≡ cell_with (appended ma (queue_colours queue.old)) }
 {
-    let b = q[0] + came_in(ma);
-    let n = wide(b);
-    let old = q[n];
-    q[n] = colour_or(ma, old);
-    q[0] = b;
+    let count = queue[0] + u8::from(ma != 0);
+    let end = count as usize;
+    queue[end] = colour_or(ma, queue[end]);
+    queue[0] = count;
 }
 
 // A queue after a step: it drops its front if its output moved, then appends what came in.
-fn queue_next(q: &mut [u8], ma: u8, mb: u8)
-    requires { Moves q.old ma mb }
-    ensures { q.new ≡ cell_with (appended ma (dropped mb (queue_colours q.old))) }
+fn queue_next(queue: &mut [u8], ma: u8, mb: u8)
+    requires { Moves queue.old ma mb }
+    ensures { queue.new ≡ cell_with (appended ma (dropped mb (queue_colours queue.old))) }
 {
-    let_out(&mut *q, mb);
-    let_in(&mut *q, ma);
+    let_out(queue, mb);
+    let_in(queue, ma);
 }
 
 // A source after a step: it holds its colour if it was offered and not taken.
-fn source_next(q: &mut [u8], channel: Channel)
-    requires { (length q.old ≡ cell_size) × (offer_number channel.offer ≤ 255) }
-    ensures { q.new ≡ unless (bit channel.take) (offer_number channel.offer) ∷ drop 1 q.old }
+#[tactic(auto, using(crate::proofs::Turn::set_first, held::proofs::Values::held_number))]
+fn source_next(cell: &mut [u8], channel: Channel)
+    requires cell { length cell.old ≡ cell_size }
+    requires channel { offer_number channel.offer ≤ 255 }
+    ensures { cell.new ≡ unless (bit channel.take) (offer_number channel.offer) ∷ drop 1 cell.old }
 {
-    let b = q[0];
-    let h = offer_of_byte(b);
-    let s = HeldSource { held: h };
-    let t = s.next(channel);
-    let o = t.held;
-    q[0] = byte_of_offer(o);
+    let source = HeldSource {
+        held: Offer::from(cell[0]),
+    };
+    cell[0] = u8::from(source.next(channel).held);
 }
 
 // A sink after a step: it holds if it took and nothing was offered.
-fn sink_next(q: &mut [u8], channel: Channel)
-    requires { length q.old ≡ cell_size }
-    ensures { q.new ≡ unless (offered (offer_number channel.offer)) (bit channel.take) ∷ drop 1 q.old }
+#[tactic(auto, using(crate::proofs::Turn::set_first, held::proofs::Values::held_flag, held::proofs::Values::flag_byte))]
+fn sink_next(cell: &mut [u8], channel: Channel)
+    requires { length cell.old ≡ cell_size }
+    ensures { cell.new ≡ unless (offered (offer_number channel.offer)) (bit channel.take) ∷ drop 1 cell.old }
 {
-    let b = q[0];
-    let s = HeldSink { held: b != 0 };
-    let t = s.next(channel);
-    q[0] = bit_of(t.held);
+    let sink = HeldSink { held: cell[0] != 0 };
+    cell[0] = u8::from(sink.next(channel).held);
 }
 
 // A merge after a step: it keeps its pick if its output was offered and not taken.
-fn merge_next(q: &mut [u8], choice: u8, a: Offer, b: Offer, output: Channel)
-    requires { length q.old ≡ cell_size }
-    ensures { q.new ≡ unless (bit output.take) (when (offer_number output.offer)
-        (suc (picks_b (get_or q.old 0 0) choice (offer_number a) (offer_number b)))) ∷ drop 1 q.old }
+#[tactic(auto, using(crate::proofs::Turn::set_first, held::proofs::Picks::picks_read))]
+fn merge_next(cell: &mut [u8], choice: u8, a: Offer, b: Offer, output: Channel)
+    requires { length cell.old ≡ cell_size }
+    ensures { cell.new ≡ unless (bit output.take) (when (offer_number output.offer)
+        (suc (picks_b (get_or cell.old 0 0) choice (offer_number a) (offer_number b)))) ∷ drop 1 cell.old }
 {
-    let n = q[0];
-    let m = HeldMerge { held: n };
-    let t = m.next(choice, a, b, output);
-    q[0] = t.held;
+    let merge = HeldMerge {
+        held: Pick::from(cell[0]),
+    };
+    cell[0] = u8::from(merge.next(choice, a, b, output).held);
 }
 
 // A component's bytes after a step, from its choice and the signals at its ports.
-fn cell_next(table: &[u8], k: usize, q: &mut [u8], choice: u8, signals: &[u8])
-    requires { Movable table.now k q.old signals.now }
-    ensures { q.new ≡ cell_next (kind (row table.now k)) (component_with (row table.now k) q.old choice)
-        (offer_of (row table.now k) (λ s. get_or signals.now s 0)) (take_of (row table.now k) (λ s. get_or signals.now s 0)) }
+fn cell_next(table: &Table, k: usize, cell: &mut [u8], choice: u8, signals: &[u8])
+    requires row { k < table.now.rows }
+    requires movable { Movable table.now.bytes.now k cell.old signals.now }
+    ensures { cell.new ≡ cell_next (kind (row table.now.bytes.now k)) (component_with (row table.now.bytes.now k) cell.old choice)
+        (offer_of (row table.now.bytes.now k) (λ s. get_or signals.now s 0)) (take_of (row table.now.bytes.now k) (λ s. get_or signals.now s 0)) }
 {
-    let kind = component::kind(table, k);
-    let a = wide(component::port(table, k, 0));
-    let b = wide(component::port(table, k, 1));
-    match kind {
-        0 => source_next(&mut *q, channel_at(signals, a)),
-        1 => sink_next(&mut *q, channel_at(signals, a)),
-        2 => queue_next(&mut *q, moved_on(signals, a), moved_on(signals, b)),
-        3..=6 => {}
-        _ => {
-            let c = wide(component::port(table, k, 2));
+    let a = table.port(k, Port::A) as usize;
+    let b = table.port(k, Port::B) as usize;
+    match table.kind(k) {
+        Kind::Source => source_next(cell, channel_at(signals, a)),
+        Kind::Sink => sink_next(cell, channel_at(signals, a)),
+        Kind::Queue => queue_next(cell, moved_on(signals, a), moved_on(signals, b)),
+        Kind::Function | Kind::Fork | Kind::Join | Kind::Switch => {}
+        Kind::Merge => {
+            let c = table.port(k, Port::C) as usize;
             merge_next(
-                &mut *q,
+                cell,
                 choice,
                 offer_at(signals, a),
                 offer_at(signals, b),
@@ -159,17 +134,22 @@ fn cell_next(table: &[u8], k: usize, q: &mut [u8], choice: u8, signals: &[u8])
     }
 }
 
-// The state after a step, from the choices and the signals.
-pub fn update(table: &[u8], size: Size, state: &mut [u8], choices: &[u8], signals: &[u8])
-    requires { Updatable table.now size.components state.old signals.now × (size.components ≤ length choices.now) }
-    ensures { state.new ≡ state_next (netlist_of size table.now)
+/// The state after a step, from the choices and the signals.
+pub fn update(table: &Table, size: Size, state: &mut [u8], choices: &[u8], signals: &[u8])
+    requires rows { size.components ≤ table.now.rows }
+    requires updatable { Updatable table.now.bytes.now size.components state.old signals.now }
+    requires choices { size.components ≤ length choices.now }
+    ensures { state.new ≡ state_next (netlist_of size table.now.bytes.now)
         state.old choices.now (λ s. get_or signals.now s 0) }
 {
-    let mut k: usize = 0;
-    while k < size.components {
+    for k in 0..size.components {
         let at = CELL_SIZE * k;
-        let end = at + CELL_SIZE;
-        cell_next(table, k, &mut state[at..end], choices[k], signals);
-        k += 1;
+        cell_next(
+            table,
+            k,
+            &mut state[at..at + CELL_SIZE],
+            choices[k],
+            signals,
+        );
     }
 }

@@ -1,13 +1,14 @@
 -- Whole steps in a row. Assumes nothing.
-use mathlib.Core.Path.{◌≡◌, refl, ap, sym, ◌∙◌}
+use mathlib.Core.Path.{◌≡◌, refl, ap, subst, ◌∙◌}
 use mathlib.Core.Bool.{true, not}
-use mathlib.Core.List.{List}
-use Prim.Native.Nat.{ℕ, zero, suc, ◌+◌, ◌-◌, ◌*◌, ◌/◌, ◌%◌, ◌≤◌, ◌<◌}
-use native.Mathlib.Nat.{mul-suc, mul-zero, div-add-mod, mul-le-mul, mod-eq_of_lt, add-mod_left}
+use mathlib.Core.List.{List, ◌++◌}
+use Prim.Native.Nat.{ℕ, zero, suc, ◌+◌, ◌*◌, ◌/◌, ◌%◌, ◌≤◌, ◌<◌}
+use native.Mathlib.Nat.{mul-suc, mod-eq_of_lt, add-mod_left, add-div_left, div-eq_of_lt}
 use native.Mathlib.Numerals.{add-one}
 use native.Mathlib.Omega.{arith}
 use lib.ListN.{length, take, drop, length-take, length-drop}
-use lib.Seq.{get_or-take, get_or-drop, drop-drop}
+use lib.Seq.{get_or-take, get_or-drop, take_at, drop-append_seam}
+use Rattle.std.proofs.Common.{length-append}
 use borrow.Author.Tests.{not-false}
 use Rattle.digits.proofs.Least.{least-none, least-before}
 use Rattle.netlist.specs.Netlist.{Netlist}
@@ -15,17 +16,18 @@ use Rattle.netlist.specs.Accepted.{AcceptedFabric}
 use Rattle.cells.specs.Good.{Good}
 use Rattle.cells.specs.Choices.{Allowed, choice_at, bad_choice}
 use Rattle.plan.specs.Plan.{Planned}
+use Rattle.plan.specs.declared.Place.{Place}
 use Rattle.state.specs.Step.{next, CanStep}
 use Rattle.state.proofs.Step.{good-step, next-length}
 use Rattle.steps.specs.Steps.{after_steps}
 use Rattle.steps.specs.Stages.{Along, Runs}
 
 -- along the plan's own order
-pub along-steps : {f : Netlist} {plan state choices : List ℕ} (a : Along f plan state choices) → CanStep f a.planned.ends a.planned.order state choices
+pub along-steps : {f : Netlist} {places : List Place} {state choices : List ℕ} (a : Along f places state choices) → CanStep f a.planned.ends a.planned.order state choices
 along-steps a = record { accepted = a.planned.accepted; good = a.good; allowed = a.allowed }
 
 -- a step along a plan that is laid out for it
-pub steps-along : {f : Netlist} {ends order plan state choices : List ℕ} → CanStep f ends order state choices → Planned f plan → Along f plan state choices
+pub steps-along : {f : Netlist} {ends order : List ℕ} {places : List Place} {state choices : List ℕ} → CanStep f ends order state choices → Planned f places → Along f places state choices
 steps-along t p = record { planned = p; good = t.good; allowed = t.allowed }
 
 -- ---- allowed choices, of the first step and of the others
@@ -66,50 +68,49 @@ module _ (f : Netlist) (ends order : List ℕ) (a : AcceptedFabric f ends order)
       (good-step f ends order state (take f.components choices) (record { accepted = a; good = g; allowed = w })) (keep state (take f.components choices) g w p)
 
 -- ---- the loop of `run_steps`
--- after j steps, of the choices from offset i on
-pub record Running (f : Netlist) (state choices st : List ℕ) (i j : ℕ) : Type 0 where
-  pub few : j ≤ length choices / f.components
-  pub used : i ≡ f.components * j
+-- after some steps, with the choices that are left
+pub record Running (f : Netlist) (state choices st rest : List ℕ) : Type 0 where
   pub good : Good f st
   pub long : length st ≡ length state
-  pub allowed : bad_choice f (drop i choices) ≡ length (drop i choices)
-  pub is : after_steps f (length choices / f.components - j) (drop i choices) st ≡ after_steps f (length choices / f.components) choices state
+  pub allowed : bad_choice f rest ≡ length rest
+  pub is : after_steps f (length rest / f.components) rest st ≡ after_steps f (length choices / f.components) choices state
 
-pub run-start : {f : Netlist} {ends order state choices : List ℕ} → Runs f ends order state choices → Running f state choices state 0 0
-run-start {f} {choices = choices} r =
-    let e : length choices / f.components - 0 ≡ length choices / f.components = omega arith in
-    record { few = omega arith; used = sym (mul-zero f.components); good = r.good; long = refl; allowed = r.allowed; is = rw e }
+pub run-start : {f : Netlist} {ends order state choices : List ℕ} → Runs f ends order state choices → Running f state choices state choices
+run-start r = record { good = r.good; long = refl; allowed = r.allowed; is = refl }
 
-module _ {f : Netlist} {ends order state choices st : List ℕ} {i j : ℕ} (r : Runs f ends order state choices) (u : Running f state choices st i j) (h : j < length choices / f.components) where
-  pub run_room : i + f.components ≤ length choices
-  run_room =
-      let n = f.components in
-      let s = length choices / n in
-      let e : n * suc j ≡ n * j + n = mul-suc n j in
-      let k : n ≤ n = omega arith in
-      let m : n * suc j ≤ n * s = mul-le-mul k h in
-      omega (arith, u.used, e, m, div-add-mod (length choices) n)
+-- a step's choices, and those after them
+module _ {f : Netlist} {ends order state choices st rest : List ℕ} (r : Runs f ends order state choices) (u : Running f state choices st rest)
+    (step after : List ℕ) (parts : rest ≡ step ++ after) (whole : length step ≡ f.components) where
+  front : take f.components rest ≡ step
+  front = rw parts (take_at step after f.components whole)
 
-  rest-long : f.components ≤ length (drop i choices)
-  rest-long = rw length-drop (omega (arith, run_room))
+  back : drop f.components rest ≡ after
+  back = rw (parts, ← whole) (drop-append_seam step after)
 
-  pub run-ready : CanStep f ends order st (take f.components (drop i choices))
-  run-ready = record { accepted = r.accepted; good = u.good; allowed = first-allowed f (drop i choices) u.allowed rest-long }
+  sum : length rest ≡ f.components + length after
+  sum = ap length parts ∙ length-append step after ∙ ap (λ (k : ℕ). k + length after) whole
 
-  pub run_more : Running f state choices (next f st (take f.components (drop i choices))) (i + f.components) (j + 1)
+  enough : f.components ≤ length rest
+  enough = omega (arith, sum)
+
+  pub run-ready : CanStep f ends order st step
+  run-ready = record { accepted = r.accepted; good = u.good; allowed = rw front at (first-allowed f rest u.allowed enough) }
+
+  pub run_more : Running f state choices (next f st step) after
   unfolding after_steps
   run_more = record {
-    few = omega arith;
-    used = let e : f.components * (j + 1) ≡ f.components * j + f.components = ap (λ (k : ℕ). f.components * k) (add-one j) ∙ mul-suc f.components j in omega (arith, u.used, e);
-    good = good-step f ends order st (take f.components (drop i choices)) run-ready;
-    long = next-length f ends order st (take f.components (drop i choices)) run-ready ∙ u.long;
-    allowed = rw (drop-drop f.components i choices) at (others-allowed f (drop i choices) u.allowed rest-long);
+    good = good-step f ends order st step run-ready;
+    long = next-length f ends order st step run-ready ∙ u.long;
+    allowed = rw back at (others-allowed f rest u.allowed enough);
     is =
-        let d : length choices / f.components - j ≡ suc (length choices / f.components - (j + 1)) = omega arith in
-        rw (← drop-drop f.components i choices) (rw d at u.is);
+        let n = f.components in
+        let d : length rest / n ≡ suc (length after / n) = ap (λ (k : ℕ). k / n) sum ∙ add-div_left (length after) r.accepted.some_rows ∙ add-one (length after / n) in
+        let e : after_steps f (length after / n) (drop n rest) (next f st (take n rest)) ≡ after_steps f (length choices / n) choices state = subst (λ (m : ℕ). after_steps f m rest st ≡ after_steps f (length choices / n) choices state) d u.is in
+        subst (λ (l : List ℕ). after_steps f (length after / n) after (next f st l) ≡ after_steps f (length choices / n) choices state) front
+        (subst (λ (l : List ℕ). after_steps f (length after / n) l (next f st (take n rest)) ≡ after_steps f (length choices / n) choices state) back e);
   }
 
-pub run_end : {f : Netlist} {state choices st : List ℕ} {i j : ℕ} → Running f state choices st i j → length choices / f.components ≤ j →
+pub run_end : {f : Netlist} {state choices st rest : List ℕ} → Running f state choices st rest → length rest < f.components →
     st ≡ after_steps f (length choices / f.components) choices state
 unfolding after_steps
-run_end {f} {state} {choices} {st} {i} {j} u h = let d : length choices / f.components - j ≡ 0 = omega arith in rw d at u.is
+run_end {f} {state} {choices} {st} {rest} u h = let d : length rest / f.components ≡ 0 = div-eq_of_lt h in rw d at u.is

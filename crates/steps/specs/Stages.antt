@@ -5,10 +5,11 @@ use Rattle.netlist.specs.Accepted.{AcceptedFabric}
 use Rattle.cells.specs.Good.{Good}
 use Rattle.cells.specs.Choices.{Allowed, bad_choice}
 use Rattle.plan.specs.Plan.{Planned}
+use Rattle.plan.specs.declared.Place.{Place}
 
 -- a plan of an accepted fabric, a good state and allowed choices
-pub record Along (f : Netlist) (plan state choices : List ℕ) : Type 0 where
-  pub planned : Planned f plan
+pub record Along (f : Netlist) (places : List Place) (state choices : List ℕ) : Type 0 where
+  pub planned : Planned f places
   pub good : Good f state
   pub allowed : Allowed f choices
 

@@ -6,7 +6,7 @@ ghost use Rattle.digits.specs.UpTo.{up_to};
 ghost use Rattle.refusals.specs.Refusals.{first_refusal, kept};
 ghost use Rattle.component.specs.Limits.{most_components};
 ghost use Rattle.netlist.specs.Netlist.{netlist_of};
-ghost use Rattle.netlist.specs.Accepted.{AcceptedFabric};
+ghost use Rattle.netlist.specs.View.{facts_of};
 ghost use Rattle.cells.specs.Start.{started};
 ghost use Rattle.cells.specs.Cells.{cell_size};
 ghost use Rattle.signals.specs.Signals as step;
@@ -16,148 +16,110 @@ ghost use Rattle.verdicts.specs.Tests.{start_tests, step_tests, run_tests};
 ghost use Rattle.steps.specs.Steps.{after_steps};
 ghost use Rattle.steps.specs.Stages.{Along, Runs};
 
-use netlist::Size;
+use component::Table;
+use netlist::{Fabric, Netlist, Size};
 use order::MOST_SIGNALS;
-use refusals::Verdict;
+use plan::Place;
+use refusals::Refusal;
+use rules::Rule;
 
-// Writes the state at start, if there is room for it.
-pub fn start_fabric(table: &[u8], size: Size, state: &mut [u8]) -> Verdict
-    requires { (size.components ≤ most_components) × (cell_size * size.components ≤ length state.old → Startable table.now size.components state.old) }
-    ensures { (result ≡ first_refusal (start_tests (netlist_of size table.now) (length state.old)))
-        × (state.new ≡ kept result (started (netlist_of size table.now) state.old) state.old) }
+// What stands in a plan's memory before a place is laid there.
+const NO_PLACE: Place = Place {
+    rule: Rule::SourceOffer,
+    signal: 0,
+    component: 0,
+    a: 0,
+    b: 0,
+    c: 0,
+};
+
+/// Writes the state at start, if there is room for it; else 21.
+pub fn start_fabric(table: &Table, size: Size, state: &mut [u8]) -> Result<(), Refusal>
+    requires few { size.components ≤ most_components }
+    requires startable { cell_size * size.components ≤ length state.old → Startable table.now.bytes.now size.components state.old }
+    requires rows { size.components ≤ table.now.rows }
+    ensures answer { result ≡ first_refusal (start_tests (netlist_of size table.now.bytes.now) (length state.old)) }
+    ensures state { state.new ≡ kept result (started (netlist_of size table.now.bytes.now) state.old) state.old }
 {
-    let verdict = verdicts::start_verdict(size, state.len());
-    match verdict {
-        Verdict::Refused(r) => Verdict::Refused(r),
-        Verdict::Accepted => {
-            start::write_start(table, size, &mut *state);
-            Verdict::Accepted
-        }
-    }
+    verdicts::start_verdict(size, state.len())?;
+    start::write_start(table, size, state);
+    Ok(())
 }
 
 // Takes a step along a plan: works out the signals, and writes the state after it.
 fn step_along(
-    table: &[u8],
-    size: Size,
-    plan: &[u16],
+    netlist: &Netlist,
+    places: &[Place],
     state: &mut [u8],
     choices: &[u8],
     signals: &mut [u8],
 )
-    requires { Along (netlist_of size table.now) plan.now state.old choices.now × (2 * size.channels ≤ length signals.old) }
-    ensures { (state.new ≡ next (netlist_of size table.now) state.old choices.now)
-        × (signals.new ≡ up_to (2 * size.channels) (step.value (netlist_of size table.now) state.old choices.now)
-        ++ drop (2 * size.channels) signals.old) }
+    requires along { Along (facts_of netlist.now) places.now state.old choices.now }
+    requires room { 2 * netlist.now.size.channels ≤ length signals.old }
+    ensures state { state.new ≡ next (facts_of netlist.now) state.old choices.now }
+    ensures signals { signals.new ≡
+        up_to (2 * netlist.now.size.channels) (step.value (facts_of netlist.now) state.old choices.now)
+        ++ drop (2 * netlist.now.size.channels) signals.old }
 {
-    signals::evaluate(table, size, plan, &state[..], choices, &mut *signals);
-    state::update(table, size, &mut *state, choices, &signals[..]);
+    signals::evaluate(netlist, places, state, choices, signals);
+    state::update(&netlist.table, netlist.size, state, choices, signals);
 }
 
 // Takes one step, and writes what moved.
-fn take_step(
-    table: &[u8],
-    ends: &[u16],
-    size: Size,
-    order: &[u16; MOST_SIGNALS],
-    state: &mut [u8],
-    choices: &[u8],
-    moves: &mut [u8],
-)
-    requires { CanStep (netlist_of size table.now) ends.now order.now state.old choices.now
-        × (size.channels ≤ length moves.old) }
-    ensures { (state.new ≡ next (netlist_of size table.now) state.old choices.now)
-        × (moves.new ≡ step.moves (netlist_of size table.now) state.old choices.now
-        ++ drop size.channels moves.old) }
+fn take_step(fabric: &Fabric, state: &mut [u8], choices: &[u8], moves: &mut [u8])
+    requires step { CanStep (facts_of fabric.now.netlist) fabric.now.ends.now fabric.now.order.now state.old choices.now }
+    requires room { fabric.now.netlist.size.channels ≤ length moves.old }
+    ensures state { state.new ≡ next (facts_of fabric.now.netlist) state.old choices.now }
+    ensures moves { moves.new ≡
+        step.moves (facts_of fabric.now.netlist) state.old choices.now ++ drop fabric.now.netlist.size.channels moves.old }
 {
-    let mut plan = [0u16; 6 * MOST_SIGNALS];
-    let mut signals = [0u8; MOST_SIGNALS];
-    plan::lay_out(table, ends, size, order, &mut plan);
-    step_along(table, size, &plan, &mut *state, choices, &mut signals);
-    signals::write_moves(&signals, size.channels, &mut *moves);
+    let mut places = [NO_PLACE; MOST_SIGNALS];
+    let mut signals = [0; MOST_SIGNALS];
+    plan::lay_out(fabric, &mut places);
+    step_along(&fabric.netlist, &places, state, choices, &mut signals);
+    signals::write_moves(&signals, fabric.netlist.size.channels, moves);
 }
 
-// Takes a step, if no test is met.
+/// Takes a step, if no test is met; else the first of 21, 22, 9, 10 and 23.
 pub fn step_fabric(
-    table: &[u8],
-    ends: &[u16],
-    size: Size,
-    order: &[u16; MOST_SIGNALS],
+    fabric: &Fabric,
     state: &mut [u8],
     choices: &[u8],
     moves: &mut [u8],
-) -> Verdict
-    requires { AcceptedFabric (netlist_of size table.now) ends.now order.now }
-    ensures { (result ≡ first_refusal (step_tests (netlist_of size table.now) state.old choices.now (length moves.old)))
-        × (state.new ≡ kept result (next (netlist_of size table.now) state.old choices.now) state.old)
-        × (moves.new ≡ kept result (step.moves (netlist_of size table.now) state.old choices.now
-        ++ drop size.channels moves.old) moves.old) }
+) -> Result<(), Refusal>
+    ensures answer { result ≡ first_refusal (step_tests (facts_of fabric.now.netlist) state.old choices.now (length moves.old)) }
+    ensures state { state.new ≡ kept result (next (facts_of fabric.now.netlist) state.old choices.now) state.old }
+    ensures moves { moves.new ≡ kept result
+        (step.moves (facts_of fabric.now.netlist) state.old choices.now ++ drop fabric.now.netlist.size.channels moves.old) moves.old }
 {
-    let verdict = verdicts::step_verdict(table, size, &state[..], choices, moves.len());
-    match verdict {
-        Verdict::Refused(r) => Verdict::Refused(r),
-        Verdict::Accepted => {
-            take_step(table, ends, size, order, &mut *state, choices, &mut *moves);
-            verdict
-        }
-    }
+    let netlist = fabric.netlist;
+    verdicts::step_verdict(&netlist.table, netlist.size, state, choices, moves.len())?;
+    take_step(fabric, state, choices, moves);
+    Ok(())
 }
 
 // Takes whole steps in a row; what moves is not kept.
-fn run_steps(
-    table: &[u8],
-    ends: &[u16],
-    size: Size,
-    order: &[u16; MOST_SIGNALS],
-    state: &mut [u8],
-    choices: &[u8],
-)
-    requires { Runs (netlist_of size table.now) ends.now order.now state.old choices.now }
-    ensures { state.new ≡ after_steps (netlist_of size table.now)
-        (length choices.now / size.components) choices.now state.old }
+fn run_steps(fabric: &Fabric, state: &mut [u8], choices: &[u8])
+    requires { Runs (facts_of fabric.now.netlist) fabric.now.ends.now fabric.now.order.now state.old choices.now }
+    ensures { state.new ≡ after_steps (facts_of fabric.now.netlist)
+        (length choices.now / fabric.now.netlist.size.components) choices.now state.old }
 {
-    let mut plan = [0u16; 6 * MOST_SIGNALS];
-    plan::lay_out(table, ends, size, order, &mut plan);
-    let mut signals = [0u8; MOST_SIGNALS];
-    let n = size.components;
-    let steps = choices.len() / n;
-    let mut at: usize = 0;
-    let mut j: usize = 0;
-    while j < steps {
-        let end = at + n;
-        step_along(
-            table,
-            size,
-            &plan,
-            &mut *state,
-            &choices[at..end],
-            &mut signals,
-        );
-        at = end;
-        j += 1;
+    let mut places = [NO_PLACE; MOST_SIGNALS];
+    let mut signals = [0; MOST_SIGNALS];
+    plan::lay_out(fabric, &mut places);
+    for step in choices.chunks_exact(fabric.netlist.size.components) {
+        step_along(&fabric.netlist, &places, state, step, &mut signals);
     }
 }
 
-// Takes whole steps in a row, none included, if no test is met.
-pub fn run_fabric(
-    table: &[u8],
-    ends: &[u16],
-    size: Size,
-    order: &[u16; MOST_SIGNALS],
-    state: &mut [u8],
-    choices: &[u8],
-) -> Verdict
-    requires { AcceptedFabric (netlist_of size table.now) ends.now order.now }
-    ensures { (result ≡ first_refusal (run_tests (netlist_of size table.now) state.old choices.now))
-        × (state.new ≡ kept result (after_steps (netlist_of size table.now)
-        (length choices.now / size.components) choices.now state.old) state.old) }
+/// Takes whole steps in a row, none included, if no test is met; else the first of 21, 22, 9 and 10.
+pub fn run_fabric(fabric: &Fabric, state: &mut [u8], choices: &[u8]) -> Result<(), Refusal>
+    ensures answer { result ≡ first_refusal (run_tests (facts_of fabric.now.netlist) state.old choices.now) }
+    ensures state { state.new ≡ kept result (after_steps (facts_of fabric.now.netlist)
+        (length choices.now / fabric.now.netlist.size.components) choices.now state.old) state.old }
 {
-    let verdict = verdicts::run_verdict(table, size, &state[..], choices);
-    match verdict {
-        Verdict::Refused(r) => Verdict::Refused(r),
-        Verdict::Accepted => {
-            run_steps(table, ends, size, order, &mut *state, choices);
-            Verdict::Accepted
-        }
-    }
+    let netlist = fabric.netlist;
+    verdicts::run_verdict(&netlist.table, netlist.size, state, choices)?;
+    run_steps(fabric, state, choices);
+    Ok(())
 }

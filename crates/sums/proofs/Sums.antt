@@ -1,4 +1,5 @@
 -- The code's tables of sums hold what the definitions say. Assumes nothing.
+use Rattle.std.proofs.Common.{Result, Ok, Err}
 use mathlib.Core.Path.{◌≡◌, refl, sym, ap, ◌∙◌, subst}
 use mathlib.Core.Bool.{Bool, true, false, cond, not, ◌&&◌}
 use mathlib.Core.List.{List}
@@ -16,15 +17,16 @@ use Rattle.integers.proofs.Near.{if-near}
 use Rattle.integers.proofs.Tables.{summed-none, summed-more, summed-near, near-wider, grown-is}
 use Rattle.refusals.specs.declared.Refusal.{Refusal}
 use Rattle.refusals.specs.declared.Refusal.TheVariants.{NoEquation}
-use Rattle.refusals.specs.declared.Verdict.{Verdict}
-use Rattle.refusals.specs.declared.Verdict.TheVariants.{Accepted, Refused}
+use Rattle.component.specs.declared.kinds.Kind.{Kind}
+use Rattle.component.specs.declared.kinds.Kind.TheVariants.{Queue}
+use Rattle.component.proofs.ByKind.{is-queue}
 use Rattle.component.specs.Kind.{is_queue}
 use Rattle.component.specs.Row.{kind}
 use Rattle.component.specs.Limits.{most_colours, most_entries, most_flows}
 use Rattle.netlist.specs.Netlist.{Netlist, row_of}
 use Rattle.netlist.specs.Accepted.{AcceptedNetlist}
 use Rattle.equations.specs.Equations.{has_equation, factor}
-use Rattle.equations.specs.Numbers.{equation_named, name_verdict, equation_verdict, factor_of, numbered, InTable}
+use Rattle.equations.specs.Numbers.{equation_named, name_verdict, equation_verdict, factor_of, equation_factor, numbered, InTable, NamedIn}
 use Rattle.equations.specs.declared.Equation.{Equation}
 use Rattle.equations.proofs.Agree.{named-verdict, named-factor, named-within}
 use Rattle.equations.proofs.Queues.{known-place, queue-low, queue-has}
@@ -33,29 +35,37 @@ use Rattle.flows.specs.Flows.{flow_sum, weight, entry}
 use Rattle.flows.specs.Verdict.{bad_term, first_bad_term}
 use Rattle.flows.proofs.Terms.{multiplier-near}
 use Rattle.sums.specs.Sums.{flow_factor, count_of, count_factor, flows_to, counts_to, term_verdict, terms_verdict, Added}
-use Rattle.sums.proofs.Bounds.{factor-near, same-near}
+use Rattle.sums.proofs.Bounds.{named-near, same-near}
 
-pub never : {r : Refusal} → Refused r ≡ Accepted → ⊥
+pub never : {r : Refusal} → ◌≡◌ {A = Result Unit Refusal} (Err r) (Ok tt) → ⊥
 never e = let z : ◌≡◌ {A = ℕ} 0 1 = cc in absurd (omega arith)
 
--- ---- term k, of component q and index i, whose equation is e
-module _ (f : Netlist) (h : AcceptedNetlist f) (p : List ℕ) (k : ℕ) {q i : ℕ} (eq : q ≡ component_of p k) (ei : i ≡ index p k) {e : Equation} (ee : e ≡ equation_named f q i k) where
-  named_here : equation_verdict e ≡ name_verdict (has_equation f q i) k
-  named_here = ap equation_verdict ee ∙ named-verdict f h.facts.few_colours q i k
+-- a kind that is not a queue
+pub not-queue : (k : Kind) → (k ≡ Queue → ⊥) → false ≡ is_queue k
+not-queue k n = go (is_queue k) refl
+  where
+    go : (b : Bool) → is_queue k ≡ b → false ≡ b
+    go true e = absurd (n (is-queue k e))
+    go false e = refl
 
+-- ---- term k, of component q and index i
+module _ (f : Netlist) (h : AcceptedNetlist f) (p : List ℕ) (k : ℕ) {q i : ℕ} (eq : q ≡ component_of p k) (ei : i ≡ index p k) where
   -- what it comes to
-  pub term-verdict : {v : Verdict} → v ≡ equation_verdict e → v ≡ term_verdict f p k
+  pub term-verdict : {named : Result Equation Refusal} → named ≡ equation_named f q i k → equation_verdict named ≡ term_verdict f p k
   unfolding term_verdict
-  term-verdict d = d ∙ named_here ∙ ap (λ (x : ℕ). name_verdict (has_equation f x i) k) eq ∙ ap (λ (x : ℕ). name_verdict (has_equation f (component_of p k) x) k) ei
+  term-verdict ee =
+      ap equation_verdict ee ∙ named-verdict f h.facts.few_colours q i k
+      ∙ ap (λ (x : ℕ). name_verdict (has_equation f x i) k) eq ∙ ap (λ (x : ℕ). name_verdict (has_equation f (component_of p k) x) k) ei
 
-  pub term-within : InTable f.table e
-  term-within = subst (InTable f.table) (sym ee) (named-within f h.facts.few_colours q i k h.facts.few_channels (omega (arith, h.facts.long)) h.facts.rows)
+  -- it names equation e
+  module _ {e : Equation} (ee : Ok e ≡ equation_named f q i k) where
+    pub term-within : InTable f.components e
+    term-within = (subst (NamedIn f.components) (sym ee) (named-within f h.facts.few_colours q i k h.facts.few_channels h.facts.rows)).in_table
 
-  module _ {v : Verdict} (d : v ≡ equation_verdict e) (ok : v ≡ Accepted) where
     pub term-known : has_equation f q i ≡ true
-    term-known = go (has_equation f q i) (sym ok ∙ d ∙ named_here)
+    term-known = go (has_equation f q i) (ap equation_verdict ee ∙ named-verdict f h.facts.few_colours q i k)
       where
-        go : (b : Bool) → Accepted ≡ name_verdict b k → b ≡ true
+        go : (b : Bool) → Ok tt ≡ name_verdict b k → b ≡ true
         go true x = refl
         go false x = absurd (never (sym x))
 
@@ -70,7 +80,7 @@ module _ (f : Netlist) (h : AcceptedNetlist f) (p : List ℕ) (k : ℕ) {q i : �
     pub term-flows : {s s' : List ℤ} {m : ℤ} → m ≡ multiplier p k → Grown most_flows s m (factor_of f.table f.colours e) s' → Grown most_flows s (multiplier p k) (flow_factor f p k) s'
     unfolding flow_factor
     term-flows em = grown-is em
-        (λ u n. ap (λ (x : Equation). factor_of f.table f.colours x u) ee ∙ named-factor f h.facts.few_colours q i k u
+        (λ u n. ap (λ (x : Result Equation Refusal). equation_factor f.table f.colours x u) ee ∙ named-factor f h.facts.few_colours q i k u
         ∙ ap (λ (x : ℕ). numbered f.colours (factor f x i) u) eq ∙ ap (λ (x : ℕ). numbered f.colours (factor f (component_of p k) x) u) ei)
 
     -- and its weight
@@ -90,15 +100,15 @@ module _ (f : Netlist) (h : AcceptedNetlist f) (p : List ℕ) where
       none_below j l = omega arith
 
   -- a term that names an equation is not bad
-  term-good : (k : ℕ) → term_verdict f p k ≡ Accepted → bad_term f p k ≡ false
+  term-good : (k : ℕ) → term_verdict f p k ≡ (Ok tt) → bad_term f p k ≡ false
   unfolding term_verdict bad_term
   term-good k e = go (has_equation f (component_of p k) (index p k)) e
     where
-      go : (b : Bool) → name_verdict b k ≡ Accepted → not b ≡ false
+      go : (b : Bool) → name_verdict b k ≡ (Ok tt) → not b ≡ false
       go true x = refl
       go false x = absurd (never x)
 
-  pub added_more : {k : ℕ} {s w s' w' : List ℤ} → Added f p k s w → term_verdict f p k ≡ Accepted → Grown most_flows s (multiplier p k) (flow_factor f p k) s' → Grown most_entries w (multiplier p k) (count_factor f p k) w'
+  pub added_more : {k : ℕ} {s w s' w' : List ℤ} → Added f p k s w → term_verdict f p k ≡ (Ok tt) → Grown most_flows s (multiplier p k) (flow_factor f p k) s' → Grown most_entries w (multiplier p k) (count_factor f p k) w'
       → Added f p (k + 1) s' w'
   added_more {k} a e x y = record {
     good = λ j l. by-test j l (ltb j k) refl;
@@ -113,7 +123,7 @@ module _ (f : Netlist) (h : AcceptedNetlist f) (p : List ℕ) where
   flow-small : (k v : ℕ) → nat_abs (flow_factor f p k v) ≤ 16
   unfolding flow_factor
   flow-small k v = subst (λ (z : ℤ). nat_abs z ≤ 16) (named-factor f h.facts.few_colours (component_of p k) (index p k) k v)
-      (factor-near f.table f.colours h.facts.few_colours (equation_named f (component_of p k) (index p k) k) v)
+      (named-near f.table f.colours h.facts.few_colours (equation_named f (component_of p k) (index p k) k) v)
 
   count_small : (k u : ℕ) → nat_abs (count_factor f p k u) ≤ 1
   unfolding count_of
@@ -126,23 +136,23 @@ module _ (f : Netlist) (h : AcceptedNetlist f) (p : List ℕ) where
   counts-near {k} l a = near-wider (k * (2 ^ 22 * 1)) (2 ^ 40) (omega arith) (summed-near (multiplier p) (count_factor f p) k (2 ^ 22) 1 (multiplier-near p) count_small a.counts)
 
   -- the first bad term
-  pub bad-here : {k : ℕ} {s w : List ℤ} {r : Refusal} → Added f p k s w → Refused r ≡ term_verdict f p k → k < terms p → Refused r ≡ terms_verdict f p
+  pub bad-here : {k : ℕ} {s w : List ℤ} {r : Refusal} → Added f p k s w → Err r ≡ term_verdict f p k → k < terms p → Err r ≡ terms_verdict f p
   unfolding term_verdict bad_term terms_verdict
   bad-here {k} {s} {w} {r} a e l = go (has_equation f (component_of p k) (index p k)) refl
     where
-      go : (b : Bool) → has_equation f (component_of p k) (index p k) ≡ b → Refused r ≡ terms_verdict f p
+      go : (b : Bool) → has_equation f (component_of p k) (index p k) ≡ b → Err r ≡ terms_verdict f p
       go true x = absurd (never (e ∙ ap (λ (b : Bool). name_verdict b k) x))
       go false x =
           let y : first_bad_term f p ≡ k = least_at (bad_term f p) (terms p) k l a.good (ap not x) in
           let z : first_bad_term f p < terms p = omega arith in
-          e ∙ ap (λ (b : Bool). name_verdict b k) x ∙ ap (λ (n : ℕ). Refused (NoEquation n)) (sym y)
-          ∙ sym (ap (λ (b : Bool). cond b (Refused (NoEquation (first_bad_term f p))) Accepted) (lt-ltb (first_bad_term f p) (terms p) z))
+          e ∙ ap (λ (b : Bool). name_verdict b k) x ∙ ap (λ (n : ℕ). Err (NoEquation n)) (sym y)
+          ∙ sym (ap (λ (b : Bool). cond b (Err (NoEquation (first_bad_term f p))) (Ok tt)) (lt-ltb (first_bad_term f p) (terms p) z))
 
-  pub bad-nowhere : {k : ℕ} {s w : List ℤ} → Added f p k s w → k ≡ terms p → Accepted ≡ terms_verdict f p
+  pub bad-nowhere : {k : ℕ} {s w : List ℤ} → Added f p k s w → k ≡ terms p → (Ok tt) ≡ terms_verdict f p
   unfolding terms_verdict
   bad-nowhere {k} a e =
       let y : first_bad_term f p ≡ terms p = least-none (bad_term f p) (terms p) (λ j l. a.good j (omega arith)) in
-      sym (ap (λ (b : Bool). cond b (Refused (NoEquation (first_bad_term f p))) Accepted) (le-ltb (first_bad_term f p) (terms p) (omega arith)))
+      sym (ap (λ (b : Bool). cond b (Err (NoEquation (first_bad_term f p))) (Ok tt)) (le-ltb (first_bad_term f p) (terms p) (omega arith)))
 
 -- ---- the tables after all terms
 module _ (f : Netlist) (p : List ℕ) where

@@ -1,10 +1,10 @@
 -- What the code's tables of sums hold, by the numbers 8x + d and 8q + d. No part of what a reader must believe; proofs/Sums ties it to `flow_sum` and `entry`.
-use Rattle.std.specs.Prelude.{◌≡◌, false, cond, ◌&&◌, List, [], ◌∷◌, ℕ, ◌+◌, ◌*◌, ◌<◌, ltb, ℤ, pos, ◌*ℤ◌}
+use Rattle.std.specs.Prelude.{◌≡◌, false, Result, cond, ◌&&◌, List, [], ◌∷◌, ℕ, ◌+◌, ◌*◌, ◌<◌, ltb, ℤ, pos, ◌*ℤ◌}
 use Rattle.integers.specs.Sum.{sum_to, same}
 use Rattle.integers.specs.Tables.{Summed}
 use Rattle.refusals.specs.Refusals.{test, first_refusal}
+use Rattle.refusals.specs.declared.Refusal.{Refusal}
 use Rattle.refusals.specs.declared.Refusal.TheVariants.{NoEquation}
-use Rattle.refusals.specs.declared.Verdict.{Verdict}
 use Rattle.component.specs.Kind.{is_queue}
 use Rattle.component.specs.Row.{kind}
 use Rattle.component.specs.Limits.{most_entries, most_flows}
@@ -33,10 +33,10 @@ abbrev pub counts_to : Netlist → List ℕ → ℕ → ℕ → ℤ
 counts_to f p k u = sum_to k (λ j. multiplier p j *ℤ count_factor f p j u)
 
 -- what a term comes to, and all terms
-unfoldable pub term_verdict : Netlist → List ℕ → ℕ → Verdict
+unfoldable pub term_verdict : Netlist → List ℕ → ℕ → Result Unit Refusal
 term_verdict f p k = name_verdict (has_equation f (component_of p k) (index p k)) k
 
-unfoldable pub terms_verdict : Netlist → List ℕ → Verdict
+unfoldable pub terms_verdict : Netlist → List ℕ → Result Unit Refusal
 terms_verdict f p = first_refusal (test (NoEquation (first_bad_term f p)) (ltb (first_bad_term f p) (terms p)) ∷ [])
 
 -- after k terms that name equations

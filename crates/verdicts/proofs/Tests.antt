@@ -1,20 +1,18 @@
 -- What the tests of start, step and run come to, met or not. Assumes nothing.
-use mathlib.Core.Path.{◌≡◌, ap, ◌∙◌}
-use mathlib.Core.Bool.{Bool, true, false, not}
+use Rattle.std.proofs.Common.{Ok}
+use mathlib.Core.Path.{◌≡◌}
+use mathlib.Core.Bool.{Bool, false, not}
 use mathlib.Core.List.{List, [], ◌∷◌}
-use Prim.Native.Nat.{ℕ, ◌*◌, ◌%◌, ◌≤◌, ◌<◌}
+use Prim.Native.Nat.{ℕ, ◌*◌, ◌%◌, ◌≤◌}
 use native.Mathlib.Omega.{arith}
 use lib.Dec.{ltb, eqb}
 use lib.ListN.{length}
-use borrow.Author.Tests.{lt-ltb, le-ltb, ltb-false, eqb-true, not-false}
+use borrow.Author.Tests.{ltb-false, eqb-true, not-false}
 use Rattle.digits.proofs.Least.{least-le}
 use Rattle.refusals.specs.Refusals.{test, first_refusal}
-use Rattle.refusals.specs.Room.{room_for}
 use Rattle.refusals.specs.declared.Refusal.TheVariants.{StateShort, BadState, ChoiceCount, BadChoice}
-use Rattle.refusals.specs.declared.Verdict.{Verdict}
-use Rattle.refusals.specs.declared.Verdict.TheVariants.{Accepted, Refused}
 use Rattle.refusals.proofs.Refusals.{cond-accepted}
-use Rattle.refusals.proofs.Room.{room-last, last-accepted}
+use Rattle.refusals.proofs.Room.{last-accepted}
 use Rattle.netlist.specs.Netlist.{Netlist, row_of}
 use Rattle.netlist.specs.Accepted.{AcceptedFabric}
 use Rattle.cells.specs.Cells.{cell, cell_size}
@@ -26,48 +24,23 @@ use Rattle.verdicts.specs.Tests.{step_tests, run_tests}
 use Rattle.verdicts.specs.Stages.{ready_tests, Testable}
 
 -- 21
-pub start-short : (space need : ℕ) → space < need → Refused StateShort ≡ first_refusal (test StateShort (ltb space need) ∷ [])
-start-short space need h = rw (lt-ltb space need h)
-
-pub start-given : (space need : ℕ) → need ≤ space → Accepted ≡ first_refusal (test StateShort (ltb space need) ∷ [])
-start-given space need h = rw (le-ltb space need h)
-
-pub start-space : (space need : ℕ) → first_refusal (test StateShort (ltb space need) ∷ []) ≡ Accepted → need ≤ space
-start-space space need e = ltb-false space need (cond-accepted StateShort (ltb space need) Accepted e).0
+pub start-space : (space need : ℕ) → first_refusal (test StateShort (ltb space need) ∷ []) ≡ (Ok tt) → need ≤ space
+start-space space need e = ltb-false space need (cond-accepted StateShort (ltb space need) (Ok tt) e).0
 
 -- ---- 21, 22, 9 and 10
-module _ (f : Netlist) (state choices : List ℕ) (uneven : Bool) where
-  pub ready-short : length state < cell_size * f.components → Refused StateShort ≡ first_refusal (ready_tests f state choices uneven)
-  ready-short h = rw (lt-ltb (length state) (cell_size * f.components) h)
-
-  module _ (long : cell_size * f.components ≤ length state) (bad : ℕ) (eb : bad ≡ bad_component f state) where
-    pub ready-cell : bad < f.components → Refused (BadState bad) ≡ first_refusal (ready_tests f state choices uneven)
-    ready-cell h = rw (le-ltb (length state) (cell_size * f.components) long, ← eb, lt-ltb bad f.components h)
-
-    module _ (good : f.components ≤ bad) where
-      pub ready-uneven : uneven ≡ true → Refused ChoiceCount ≡ first_refusal (ready_tests f state choices uneven)
-      ready-uneven h = rw (le-ltb (length state) (cell_size * f.components) long, ← eb, le-ltb bad f.components good, h)
-
-      module _ (even : uneven ≡ false) (wrong : ℕ) (ew : wrong ≡ bad_choice f choices) where
-        pub ready-choice : wrong < length choices → Refused (BadChoice wrong) ≡ first_refusal (ready_tests f state choices uneven)
-        ready-choice h = rw (le-ltb (length state) (cell_size * f.components) long, ← eb, le-ltb bad f.components good, even, ← ew, lt-ltb wrong (length choices) h)
-
-        pub ready-all : length choices ≤ wrong → Accepted ≡ first_refusal (ready_tests f state choices uneven)
-        ready-all h = rw (le-ltb (length state) (cell_size * f.components) long, ← eb, le-ltb bad f.components good, even, ← ew, le-ltb wrong (length choices) h)
-
 -- what none of them met gives
 pub record ReadyFacts (f : Netlist) (state choices : List ℕ) (uneven : Bool) : Type 0 where
   pub good : Good f state
   pub even : uneven ≡ false
   pub allowed : bad_choice f choices ≡ length choices
 
-pub ready-facts : (f : Netlist) (state choices : List ℕ) (uneven : Bool) → first_refusal (ready_tests f state choices uneven) ≡ Accepted → ReadyFacts f state choices uneven
+pub ready-facts : (f : Netlist) (state choices : List ℕ) (uneven : Bool) → first_refusal (ready_tests f state choices uneven) ≡ (Ok tt) → ReadyFacts f state choices uneven
 unfolding bad_component bad_choice
 ready-facts f state choices uneven e =
     let s₁ = cond-accepted StateShort (ltb (length state) (cell_size * f.components)) _ e in
     let s₂ = cond-accepted (BadState (bad_component f state)) (ltb (bad_component f state) f.components) _ s₁.1 in
     let s₃ = cond-accepted ChoiceCount uneven _ s₂.1 in
-    let s₄ = cond-accepted (BadChoice (bad_choice f choices)) (ltb (bad_choice f choices) (length choices)) Accepted s₃.1 in
+    let s₄ = cond-accepted (BadChoice (bad_choice f choices)) (ltb (bad_choice f choices) (length choices)) (Ok tt) s₃.1 in
     let b : bad_component f state ≡ f.components = omega (arith, ltb-false (bad_component f state) f.components s₂.0, least-le (λ k. not (good_cell f.colours (row_of f k) (cell state k))) f.components) in
     let w : bad_choice f choices ≡ length choices = omega (arith, ltb-false (bad_choice f choices) (length choices) s₄.0, least-le (λ o. not (choice_at f choices o)) (length choices)) in
     record { good = no-bad-component f state (ltb-false (length state) (cell_size * f.components) s₁.0) b; even = s₃.0; allowed = w }
@@ -80,17 +53,14 @@ module _ (f : Netlist) (state choices : List ℕ) (space : ℕ) where
   abbrev uneven : Bool
   uneven = not (eqb (length choices) f.components)
 
-  pub step-judged : (v : Verdict) → v ≡ first_refusal (ready_tests f state choices uneven) → room_for v space f.channels ≡ first_refusal (step_tests f state choices space)
-  step-judged v e = ap (λ (u : Verdict). room_for u space f.channels) e ∙ room-last (ready_tests f state choices uneven) space f.channels
-
-  pub step-facts : first_refusal (step_tests f state choices space) ≡ Accepted → Good f state × Allowed f choices × (f.channels ≤ space)
+  pub step-facts : first_refusal (step_tests f state choices space) ≡ (Ok tt) → Good f state × Allowed f choices × (f.channels ≤ space)
   step-facts e =
       let q = last-accepted (ready_tests f state choices uneven) space f.channels e in
       let r = ready-facts f state choices uneven q.0 in
       (r.good, no-bad-choice f choices (even-length (length choices) f.components r.even) r.allowed, q.1)
 
 -- an accepted run: the state is good, the choices are of whole steps, and all are allowed
-pub run-facts : (f : Netlist) (state choices : List ℕ) → first_refusal (run_tests f state choices) ≡ Accepted
+pub run-facts : (f : Netlist) (state choices : List ℕ) → first_refusal (run_tests f state choices) ≡ (Ok tt)
     → Good f state × (length choices % f.components ≡ 0) × (bad_choice f choices ≡ length choices)
 run-facts f state choices e =
     let r = ready-facts f state choices (not (eqb (length choices % f.components) 0)) e in
@@ -98,4 +68,4 @@ run-facts f state choices e =
 
 -- what a test of a state stands on, of an accepted fabric
 pub testable : {f : Netlist} {ends order : List ℕ} → AcceptedFabric f ends order → Testable f
-testable a = record { some = a.some_rows; few = a.few_rows; few_colours = a.few_colours; long = omega (arith, a.long) }
+testable a = record { some = a.some_rows; few = a.few_rows; few_colours = a.few_colours }

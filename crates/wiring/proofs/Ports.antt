@@ -1,12 +1,11 @@
--- The code's table of ports agrees with the kinds' table and rules: one computed test. Assumes nothing.
+-- What a port's code tells agrees with the kinds' table and rules: computed tests. Assumes nothing.
 use mathlib.Core.Path.{◌≡◌, refl, sym, ap₂, subst, ◌∙◌}
 use Prim.Native.Nat.{ℕ, zero, suc, ◌+◌, ◌*◌, ◌/◌, ◌%◌, ◌≤◌, ◌<◌}
 use native.Mathlib.Omega.{arith}
 use mathlib.Core.Bool.{Bool, true, false, not}
-use mathlib.Core.List.{List, [], ◌∷◌}
-use lib.Dec.{eqb}
+use mathlib.Core.List.{List}
 use lib.ListN.{get_or}
-use borrow.Author.Tests.{eqb-true, not-false}
+use borrow.Author.Tests.{not-false}
 use Rattle.digits.specs.Least.{least}
 use Rattle.digits.proofs.Least.{least-before}
 use Rattle.record.specs.Table.{row}
@@ -21,21 +20,12 @@ use Rattle.wiring.proofs.Ends.{use_slot}
 each : (p : ℕ → Bool) (n : ℕ) → least (λ i. not (p i)) n ≡ n → (i : ℕ) → i < n → p i ≡ true
 each p n e i h = not-false (p i) (least-before (λ i. not (p i)) n i (rw e h))
 
-unfoldable pub ports : List ℕ
-ports = 16 ∷ 0 ∷ 0 ∷ 32 ∷ 0 ∷ 0 ∷ 32 ∷ 16 ∷ 0 ∷ 34 ∷ 24 ∷ 0 ∷ 35 ∷ 25 ∷ 26 ∷ 37 ∷ 41 ∷ 28 ∷ 43 ∷ 24 ∷ 24 ∷ 45 ∷ 45 ∷ 28 ∷ []
-
 -- a test that passes at each kind and port
 at-port : (f : ℕ → ℕ → Bool) → least (λ i. not (f (i / 3) (i % 3))) 24 ≡ 24 → (k p : ℕ) → k ≤ 7 → p < 3 → f k p ≡ true
 at-port f e k p hk hp =
     let a : (3 * k + p) / 3 ≡ k = omega arith in
     let b : (3 * k + p) % 3 ≡ p = omega arith in
     subst (λ (j : ℕ). f k j ≡ true) b (subst (λ (i : ℕ). f i ((3 * k + p) % 3) ≡ true) a (each (λ i. f (i / 3) (i % 3)) 24 e (3 * k + p) (omega arith)))
-
-pub port-code : (k p : ℕ) → k ≤ 7 → p < 3 → get_or ports (3 * k + p) 0 ≡ port_code (kind_of k) (port_of p)
-unfolding ports least kind_of port_of port_use depends_on
-port-code k p hk hp =
-    eqb-true (get_or ports (3 * k + p) 0) (port_code (kind_of k) (port_of p))
-    (at-port (λ k p. eqb (get_or ports (3 * k + p) 0) (port_code (kind_of k) (port_of p))) refl k p hk hp)
 
 -- what a code tells
 same : Bool → Bool → Bool

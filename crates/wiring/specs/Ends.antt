@@ -3,7 +3,8 @@ use Rattle.std.specs.Prelude.{ℕ, ◌*◌, ◌/◌, ◌%◌, Bool, true, false,
 use Rattle.digits.specs.Least.{least}
 use Rattle.digits.specs.Count.{count}
 use Rattle.record.specs.Table.{row}
-use Rattle.component.specs.Kind.{Port, port_of, Use, port_use, is_output, is_input}
+use Rattle.component.specs.declared.kinds.Port.{Port}
+use Rattle.component.specs.Kind.{port_of, Use, port_use, is_output, is_input}
 use Rattle.component.specs.Row.{kind, port}
 
 abbrev pub end_row : List ℕ → ℕ → List ℕ

@@ -3,3 +3,4 @@ pub mod Signals
 pub mod Sound
 pub mod Ports
 pub mod Stages
+pub mod Refused

@@ -1,7 +1,9 @@
 -- How the code keeps a port's use and the needs of its signal: 16 output, 32 input, 8 offer(A), 4 offer(B), 2 take(B), 1 take(C). It describes the
 -- code, and proofs/Ports.antt ties it to the definitions.
 use Rattle.std.specs.Prelude.{ℕ, zero, suc, ◌+◌, ◌*◌, ◌/◌, ◌%◌, Bool, true, false, cond, ◌&&◌, ◌||◌, List, eqb, ltb}
-use Rattle.component.specs.Kind.{Kind, Port, Use, input, output, unused, port_use}
+use Rattle.component.specs.declared.kinds.Kind.{Kind}
+use Rattle.component.specs.declared.kinds.Port.{Port}
+use Rattle.component.specs.Kind.{Use, input, output, unused, port_use}
 use Rattle.component.specs.Row.{kind}
 use Rattle.wiring.specs.Ends.{end_row, end_port}
 use Rattle.wiring.specs.Signals.{Near, offer_a, offer_b, take_b, take_c, depends_on, has}

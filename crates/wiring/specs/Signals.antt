@@ -2,7 +2,10 @@
 use Rattle.std.specs.Prelude.{ℕ, zero, suc, ◌+◌, ◌*◌, ◌/◌, ◌%◌, Bool, true, false, cond, ◌||◌, List, [], ◌∷◌, eqb}
 use Rattle.digits.specs.Least.{least}
 use Rattle.order.specs.Graph.{most_signals}
-use Rattle.component.specs.Kind.{Kind, source, sink, queue, function, fork, join, switch, merge, Port, A, B, C}
+use Rattle.component.specs.declared.kinds.Kind.{Kind}
+use Rattle.component.specs.declared.kinds.Kind.TheVariants.{Source, Sink, Queue, Function, Fork, Join, Switch, Merge}
+use Rattle.component.specs.declared.kinds.Port.{Port}
+use Rattle.component.specs.declared.kinds.Port.TheVariants.{A, B, C}
 use Rattle.component.specs.Row.{kind, port}
 use Rattle.wiring.specs.Ends.{end_row, end_port, is_end}
 
@@ -16,40 +19,40 @@ pub data Near : Type 0 where
 -- A signal depends on each signal in its rule: at an output port that of the port's offer, at an input port that of its take.
 unfoldable pub depends_on : Kind → Port → List Near
 -- Source: its held colour if it has one, else its choice.
-depends_on source A = []
-depends_on source B = []
-depends_on source C = []
+depends_on Source A = []
+depends_on Source B = []
+depends_on Source C = []
 -- Sink takes if held or chosen.
-depends_on sink A = []
-depends_on sink B = []
-depends_on sink C = []
+depends_on Sink A = []
+depends_on Sink B = []
+depends_on Sink C = []
 -- Queue: offers its front colour if not empty; takes if not full at the step's beginning.
-depends_on queue A = []
-depends_on queue B = []
-depends_on queue C = []
+depends_on Queue A = []
+depends_on Queue B = []
+depends_on Queue C = []
 -- Function: offers the mapped colour; takes as its output does.
-depends_on function A = take_b ∷ []
-depends_on function B = offer_a ∷ []
-depends_on function C = []
+depends_on Function A = take_b ∷ []
+depends_on Function B = offer_a ∷ []
+depends_on Function C = []
 -- Fork: B is offered the first map's colour if the input is offered and C takes; C likewise with the second map and B taking.
 -- Its input is taken if B and C take.
-depends_on fork A = take_b ∷ take_c ∷ []
-depends_on fork B = offer_a ∷ take_c ∷ []
-depends_on fork C = offer_a ∷ take_b ∷ []
+depends_on Fork A = take_b ∷ take_c ∷ []
+depends_on Fork B = offer_a ∷ take_c ∷ []
+depends_on Fork C = offer_a ∷ take_b ∷ []
 -- Join: offers the mapped colour of A if A and B are offered. A is taken if the output takes and B is offered; B if the output takes
 -- and A is offered.
-depends_on join A = take_c ∷ offer_b ∷ []
-depends_on join B = take_c ∷ offer_a ∷ []
-depends_on join C = offer_a ∷ offer_b ∷ []
+depends_on Join A = take_c ∷ offer_b ∷ []
+depends_on Join B = take_c ∷ offer_a ∷ []
+depends_on Join C = offer_a ∷ offer_b ∷ []
 -- Switch: offers its colour to the one output the mask names, none to the other. Its input is taken if it is offered and that output takes.
-depends_on switch A = offer_a ∷ take_b ∷ take_c ∷ []
-depends_on switch B = offer_a ∷ []
-depends_on switch C = offer_a ∷ []
+depends_on Switch A = offer_a ∷ take_b ∷ take_c ∷ []
+depends_on Switch B = offer_a ∷ []
+depends_on Switch C = offer_a ∷ []
 -- Merge: it offers the picked colour. An input is taken if picked, offered and the output takes.
 -- take(A) and take(B) of a merge depend on both offers.
-depends_on merge A = offer_a ∷ offer_b ∷ take_c ∷ []
-depends_on merge B = offer_a ∷ offer_b ∷ take_c ∷ []
-depends_on merge C = offer_a ∷ offer_b ∷ []
+depends_on Merge A = offer_a ∷ offer_b ∷ take_c ∷ []
+depends_on Merge B = offer_a ∷ offer_b ∷ take_c ∷ []
+depends_on Merge C = offer_a ∷ offer_b ∷ []
 
 abbrev pub same_near : Near → Near → Bool
 same_near offer_a offer_a = true

@@ -1,5 +1,5 @@
 -- What the stages of the code come to. It describes the code, and proofs/Sound.antt ties it to the definitions.
-use Rattle.std.specs.Prelude.{◌≡◌, ℕ, ◌+◌, ◌*◌, ◌≤◌, ◌<◌, Bool, true, false, cond, List, length, get_or, ltb}
+use Rattle.std.specs.Prelude.{◌≡◌, ℕ, ◌+◌, ◌*◌, ◌≤◌, ◌<◌, Bool, true, false, cond, List, length, get_or, ltb, Result, Ok, Err}
 use Rattle.order.specs.Graph.{has_circle, most_signals}
 use Rattle.record.specs.Table.{row}
 use Rattle.record.specs.Sizes.{row_size}
@@ -8,9 +8,8 @@ use Rattle.component.specs.Limits.{most_components}
 use Rattle.wiring.specs.Ends.{is_end, first_unmatched}
 use Rattle.wiring.specs.Ports.{found}
 use Rattle.wiring.specs.Signals.{depends_at, dependence}
-use Rattle.wiring.specs.declared.Wired.{Wired}
-use Rattle.wiring.specs.declared.Wired.TheVariants.{Sound, Unmatched, Circular}
-use Rattle.wiring.specs.Sound.{SoundWires}
+use Rattle.wiring.specs.declared.Miswired.{Miswired}
+use Rattle.wiring.specs.declared.Miswired.TheVariants.{Unmatched, Circular}
 
 -- a note for each signal of 256 channels, and one that nobody reads; the code's constant stands in src/lib.rt
 abbrev pub ends_size : ℕ
@@ -23,10 +22,10 @@ pub record Kinds (table : List ℕ) (n : ℕ) : Type 0 where
   pub kinds : (k : ℕ) → k < n → kind_number (row table k) ≤ 7
 
 -- the channels' ends, then the circle
-unfoldable pub wired : List ℕ → ℕ → ℕ → Wired
+unfoldable pub wired : List ℕ → ℕ → ℕ → Result Unit Miswired
 wired table n channels =
-    cond (ltb (first_unmatched table n channels) channels) (Unmatched (first_unmatched table n channels))
-    (cond (has_circle (dependence table n) (2 * channels)) Circular Sound)
+    cond (ltb (first_unmatched table n channels) channels) (Err (Unmatched (first_unmatched table n channels)))
+    (cond (has_circle (dependence table n) (2 * channels)) (Err Circular) (Ok tt))
 
 -- the number of offer(x) (true) or take(x) (false)
 abbrev pub signal_at : Bool → ℕ → ℕ
@@ -48,8 +47,3 @@ pub record Entries (table : List ℕ) (e s : ℕ) (before after : List ℕ) : Ty
 pub record Dependences (table : List ℕ) (n channels : ℕ) (deps : List ℕ) : Type 0 where
   pub long : length deps ≡ 4 * most_signals
   pub at : (s j : ℕ) → s < 2 * channels → j < 4 → get_or deps (4 * s + j) 0 ≡ dependence table n s j
-
--- what `wire` gives
-pub record Wiring (table : List ℕ) (n channels : ℕ) (found : Wired) (ends order : List ℕ) : Type 0 where
-  pub is : found ≡ wired table n channels
-  pub sound : wired table n channels ≡ Sound → SoundWires table n channels ends order

@@ -1,8 +1,8 @@
 // The channels of a table: the two ends of each, the dependences of their signals, and an order of them or a circle.
 #![tactic(auto)]
 
-ghost use Rattle.std.specs.Prelude.{◌≡◌, suc, ◌+◌, ◌*◌, ◌/◌, ◌≤◌, ◌<◌, not, ◌&&◌, length, get_or, replicate};
-ghost use Rattle.digits.specs.Least.{least};
+ghost use Rattle.std.specs.Prelude.{◌≡◌, suc, ◌+◌, ◌*◌, ◌/◌, ◌≤◌, ◌<◌, not, ◌&&◌, length, get_or, replicate, OnOk, Result, Ok, Err};
+ghost use Rattle.search.specs.First.{first};
 ghost use Rattle.order.specs.Graph.{most_signals};
 ghost use Rattle.record.specs.Table.{row};
 ghost use Rattle.record.specs.Sizes.{row_size};
@@ -10,18 +10,20 @@ ghost use Rattle.component.specs.Kind.{kind_of, port_of};
 ghost use Rattle.component.specs.Row.{port, kind_number};
 ghost use Rattle.component.specs.Limits.{most_channels, most_components};
 ghost use Rattle.wiring.specs.Signals.{depends_at};
-ghost use Rattle.wiring.specs.Sound.{Ends};
-ghost use Rattle.wiring.specs.Stages.{Kinds, FoundEnds, Entries, Dependences, Wiring, ends_size};
+ghost use Rattle.wiring.specs.Sound.{Ends, SoundWires};
+ghost use Rattle.wiring.specs.Stages.{Kinds, FoundEnds, Entries, Dependences, wired, ends_size};
+ghost use Rattle.wiring.specs.Refused.{miswired_of, refusal_of};
 ghost use Rattle.wiring.specs.Ports.{port_code, end_code, slot_of, code_has, marked, single};
 
-use digits::wide;
-use order::MOST_SIGNALS;
+use component::{Kind, Port, Table};
+use order::{Circular, MOST_SIGNALS};
+use refusals::Refusal;
 
 // A note for each signal of 256 channels, and one that nobody reads.
 pub const ENDS_SIZE: usize = 513;
 
 // A line a kind and port: 16 an output, 32 an input, and what the signal there depends on:
-// 8 offer(A), 4 offer(B), 2 take(B), 1 take(C).
+// 8 offer(A), 4 offer(B), 2 take(B), 1 take(C). A table and no `match` on kind and port, whose jumps make reading a file a third slower.
 const PORTS: [u8; 24] = [
     16, // source A
     0, 0, 32, // sink A
@@ -43,19 +45,20 @@ const PORTS: [u8; 24] = [
     28, // merge C: offer(A), offer(B)
 ];
 
-fn port_code(kind: usize, port: usize) -> u8
-    requires { (kind ≤ 7) × (port < 3) }
-    ensures { result ≡ port_code (kind_of kind) (port_of port) }
+fn port_code(kind: Kind, port: Port) -> u8
+    ensures { result ≡ port_code kind port }
 {
-    PORTS[3 * kind + port]
+    PORTS[3 * kind as usize + port as usize]
 }
 
 // The code of end e.
-fn end_code(table: &[u8], e: usize) -> u8
-    requires { (row_size * (e / 3) + row_size ≤ length table.now) × (kind_number (row table.now (e / 3)) ≤ 7) }
-    ensures { result ≡ end_code table.now e }
+#[tactic(auto, unfolding(crate::specs::Ports::end_code))]
+fn end_code(table: &Table, e: usize) -> u8
+    requires end { e / 3 < table.now.rows }
+    requires kind { kind_number (row table.now.bytes.now (e / 3)) ≤ 7 }
+    ensures { result ≡ end_code table.now.bytes.now e }
 {
-    port_code(wide(component::kind(table, e / 3)), e % 3)
+    port_code(table.kind(e / 3), Port::from(e % 3))
 }
 
 // Where the end of this code at channel x is noted: at 2x for an output, at 2x + 1 for an input, at 512 if it is no end.
@@ -93,26 +96,30 @@ fn mark(e: usize, old: u16) -> u16
 }
 
 // Notes port p of component k, after all ends before it.
-fn note_end(table: &[u8], k: usize, p: usize, ends: &mut [u16])
-    requires { (k < most_components) × (p < 3) × (row_size * k + row_size ≤ length table.now) × (kind_number (row table.now k) ≤ 7) × FoundEnds table.now (3 * k + p) ends.old }
-    ensures { FoundEnds table.now (3 * k + p + 1) ends.new }
+fn note_end(table: &Table, k: usize, p: usize, ends: &mut [u16; ENDS_SIZE])
+    requires row { k < table.now.rows }
+    requires few { table.now.rows ≤ most_components }
+    requires port { p < 3 }
+    requires kind { kind_number (row table.now.bytes.now k) ≤ 7 }
+    requires before { FoundEnds table.now.bytes.now (3 * k + p) ends.old }
+    ensures { FoundEnds table.now.bytes.now (3 * k + p + 1) ends.new }
 {
-    let x = wide(component::port(table, k, p));
-    let at = slot(port_code(wide(component::kind(table, k)), p), x);
+    let port = Port::from(p);
+    let x = usize::from(table.port(k, port));
+    let at = slot(port_code(table.kind(k), port), x);
     ends[at] = mark(3 * k + p, ends[at]);
 }
 
 // Notes for each signal 1 + the end that gives it, 0 where there is none, 512 where there are several.
-fn find_ends(table: &[u8], n: usize, ends: &mut [u16])
-    requires { Kinds table.now n × (ends.old ≡ replicate ends_size 0) }
-    ensures { FoundEnds table.now (3 * n) ends.new }
+fn find_ends(table: &Table, ends: &mut [u16; ENDS_SIZE])
+    requires kinds { Kinds table.now.bytes.now table.now.rows }
+    requires clear { ends.old ≡ replicate ends_size 0 }
+    ensures { FoundEnds table.now.bytes.now (3 * table.now.rows) ends.new }
 {
-    let mut k: usize = 0;
-    while k < n {
-        note_end(table, k, 0, &mut *ends);
-        note_end(table, k, 1, &mut *ends);
-        note_end(table, k, 2, &mut *ends);
-        k += 1;
+    for k in 0..table.rows {
+        note_end(table, k, 0, ends);
+        note_end(table, k, 1, ends);
+        note_end(table, k, 2, ends);
     }
 }
 
@@ -122,19 +129,14 @@ fn single_end(v: u16) -> bool
     (0 < v) & (v < 512)
 }
 
-// The lowest channel without just one output and just one input, or their number.
-fn first_unmatched(ends: &[u16], channels: usize) -> usize
-    requires { (channels ≤ most_channels) × (length ends.now ≡ ends_size) }
-    ensures { result ≡ least (λ x. not (single (get_or ends.now (2 * x) 0) && single (get_or ends.now (2 * x + 1) 0))) channels }
+// The lowest channel without just one output and just one input.
+fn first_unmatched(ends: &[u16; ENDS_SIZE], channels: usize) -> Option<usize>
+    requires { channels ≤ most_channels }
+    ensures { result ≡ first (λ x. not (single (get_or ends.now (2 * x) 0) && single (get_or ends.now (2 * x + 1) 0))) channels }
 {
-    let mut x: usize = 0;
-    while x < channels {
-        if !(single_end(ends[2 * x]) & single_end(ends[2 * x + 1])) {
-            return x;
-        }
-        x += 1;
-    }
-    channels
+    search::first(channels, |x| {
+        !(single_end(ends[2 * x]) & single_end(ends[2 * x + 1]))
+    })
 }
 
 // The end before the one that is noted.
@@ -146,11 +148,14 @@ fn end_before(v: u16) -> usize
 }
 
 // Entry j of what the signal at end e, of this code, depends on.
-fn depends_at(table: &[u8], e: usize, code: u8, j: usize) -> u16
-    requires { (row_size * (e / 3) + row_size ≤ length table.now) × (kind_number (row table.now (e / 3)) ≤ 7) × (code ≡ end_code table.now e) × (j < 4) }
-    ensures { result ≡ depends_at table.now e j }
+fn depends_at(table: &Table, e: usize, code: u8, j: usize) -> u16
+    requires end { e / 3 < table.now.rows }
+    requires kind { kind_number (row table.now.bytes.now (e / 3)) ≤ 7 }
+    requires code { code ≡ end_code table.now.bytes.now e }
+    requires entry { j < 4 }
+    ensures { result ≡ depends_at table.now.bytes.now e j }
 {
-    let x = wide(component::port(table, e / 3, (j + 1) / 2));
+    let x = usize::from(table.port(e / 3, Port::from((j + 1) / 2)));
     if code_has(code, j) {
         return (2 * x + j / 2) as u16;
     }
@@ -158,65 +163,81 @@ fn depends_at(table: &[u8], e: usize, code: u8, j: usize) -> u16
 }
 
 // Lays down the four entries of signal s, which end e gives.
-fn put_entries(table: &[u8], e: usize, s: usize, deps: &mut [u16; 4 * MOST_SIGNALS])
-    requires { (row_size * (e / 3) + row_size ≤ length table.now) × (kind_number (row table.now (e / 3)) ≤ 7) × (s < most_signals) × (length deps.old ≡ 4 * most_signals) }
-    ensures { Entries table.now e s deps.old deps.new }
+fn put_entries(table: &Table, e: usize, s: usize, deps: &mut [u16; 4 * MOST_SIGNALS])
+    requires end { e / 3 < table.now.rows }
+    requires kind { kind_number (row table.now.bytes.now (e / 3)) ≤ 7 }
+    requires signal { s < most_signals }
+    ensures { Entries table.now.bytes.now e s deps.old deps.new }
 {
     let code = end_code(table, e);
-    let mut j: usize = 0;
-    while j < 4 {
+    for j in 0..4 {
         deps[4 * s + j] = depends_at(table, e, code, j);
-        j += 1;
     }
 }
 
 // Lays down the dependences of all signals, four entries a signal.
 fn dependences(
-    table: &[u8],
-    n: usize,
-    ends: &[u16],
+    table: &Table,
+    ends: &[u16; ENDS_SIZE],
     channels: usize,
     deps: &mut [u16; 4 * MOST_SIGNALS],
 )
-    requires { Kinds table.now n × (channels ≤ most_channels) × Ends table.now n channels ends.now × (length ends.now ≡ ends_size) × (length deps.old ≡ 4 * most_signals) }
-    ensures { Dependences table.now n channels deps.new }
+    requires kinds { Kinds table.now.bytes.now table.now.rows }
+    requires few { channels ≤ most_channels }
+    requires ends { Ends table.now.bytes.now table.now.rows channels ends.now }
+    ensures { Dependences table.now.bytes.now table.now.rows channels deps.new }
 {
-    let mut s: usize = 0;
-    while s < 2 * channels {
-        put_entries(table, end_before(ends[s]), s, &mut *deps);
-        s += 1;
+    for s in 0..2 * channels {
+        put_entries(table, end_before(ends[s]), s, deps);
     }
 }
 
-// What holds of a table's channels.
-#[derive(Clone, Copy)]
-pub enum Wired {
-    Sound,
+/// What is wrong with a table's channels.
+#[derive(Clone, Copy, Debug, PartialEq, Eq)]
+pub enum Miswired {
     Unmatched(usize),
     Circular,
 }
 
-// Tests the ends of all channels and their signals' dependences. Of sound channels it lays down 1 + the end that gives each
-// signal, and the signals' order.
+impl From<Circular> for Miswired {
+    ghost from_gives = { λ circular miswired. miswired ≡ miswired_of circular };
+
+    fn from(_: Circular) -> Miswired {
+        Miswired::Circular
+    }
+}
+
+impl From<Miswired> for Refusal {
+    ghost from_gives = { λ miswired refusal. refusal ≡ refusal_of miswired };
+
+    fn from(miswired: Miswired) -> Refusal {
+        match miswired {
+            Miswired::Unmatched(x) => Refusal::ChannelEnds(x),
+            Miswired::Circular => Refusal::Circle,
+        }
+    }
+}
+
+/// Tests the ends of all channels and their signals' dependences. Of sound channels it lays down 1 + the end that gives each
+/// signal, and the signals' order.
 pub fn wire(
-    table: &[u8],
-    n: usize,
+    table: &Table,
     channels: usize,
-    ends: &mut [u16],
+    ends: &mut [u16; ENDS_SIZE],
     order: &mut [u16; MOST_SIGNALS],
-) -> Wired
-    requires { Kinds table.now n × (channels ≤ most_channels) × (ends.old ≡ replicate ends_size 0) × (most_signals ≤ length order.old) }
-    ensures { Wiring table.now n channels result ends.new order.new }
+) -> Result<(), Miswired>
+    requires kinds { Kinds table.now.bytes.now table.now.rows }
+    requires few { channels ≤ most_channels }
+    requires clear { ends.old ≡ replicate ends_size 0 }
+    ensures answer { result ≡ wired table.now.bytes.now table.now.rows channels }
+    ensures wires { OnOk result (SoundWires table.now.bytes.now table.now.rows channels ends.new order.new) }
 {
-    find_ends(table, n, &mut *ends);
-    let bad = first_unmatched(&*ends, channels);
-    if bad < channels {
-        return Wired::Unmatched(bad);
+    find_ends(table, ends);
+    if let Some(x) = first_unmatched(ends, channels) {
+        return Err(Miswired::Unmatched(x));
     }
-    let mut deps = [0u16; 4 * MOST_SIGNALS];
-    dependences(table, n, &*ends, channels, &mut deps);
-    if order::order_of(&deps, 2 * channels, &mut *order) {
-        return Wired::Circular;
-    }
-    Wired::Sound
+    let mut deps = [0; 4 * MOST_SIGNALS];
+    dependences(table, ends, channels, &mut deps);
+    order::order_of(&deps, 2 * channels, order)?;
+    Ok(())
 }

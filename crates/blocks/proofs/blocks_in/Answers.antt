@@ -1,42 +1,46 @@
+use mathlib.Core.Path.{◌≡◌, sym, ap, subst, ◌∙◌}
+use mathlib.Core.Bool.{true, false}
+use mathlib.Core.List.{List}
+use Prim.Native.Nat.{ℕ, ◌+◌, ◌*◌, ◌≤◌, ◌<◌}
 use native.Mathlib.Omega.{arith}
-use Rattle.blocks.proofs.Blocks.{walked_none, walked_more, walked_all, walked-good, bad-many, bad-count, bad-end, found-bad, found-good}
+use lib.Dec.{eqb}
+use lib.ListN.{length, drop, length-drop}
+use borrow.Author.Tests.{eqb-true, eqb-false}
+use Rattle.blocks.specs.Blocks.{term_count, block_start, behind, StartsWhole}
+use Rattle.blocks.proofs.Blocks.{Walked, walked_none, walked_more, walked_all, walked-good, bad-many, bad-split, found-bad, found-good, start_none, behind-more}
 use Rattle.blocks.proofs.blocks_in.Goals as goal
 
-pub loop-at-init : goal.loop-at-init
-loop-at-init c = (omega arith, walked_none c.args.file.now)
+-- something is left of the file, or nothing
+module _ {file rest : List ℕ} {b : ℕ} (w : Walked file b × (rest ≡ behind file b)) where
+  more : eqb (length rest) 0 ≡ false → block_start file b < length file
+  more e = let l = eqb-false _ _ e in let q = ap length w.1 ∙ length-drop (block_start file b) file in omega (arith, l, q)
 
-pub returns-then-b-eq-MOST_BLOCKS : goal.returns-then-b-eq-MOST_BLOCKS
-returns-then-b-eq-MOST_BLOCKS c =
-    let file = c.args.file.now in
-    let i = c.loop-at.invariant in
-    found-bad file (bad-many file i.1 (omega (arith, i.0)) (omega arith))
+  ended : eqb (length rest) 0 ≡ true → length file ≤ block_start file b
+  ended e = let l = eqb-true _ _ e in let q = ap length w.1 ∙ length-drop (block_start file b) file in omega (arith, l, q)
 
-pub returns-then-n-at-lt2 : goal.returns-then-n-at-lt2
-returns-then-n-at-lt2 c =
-    let file = c.args.file.now in
-    let i = c.loop-at.invariant in
-    found-bad file (bad-end file i.1 (omega (arith, i.0)) (omega (arith, i.1.few)) (omega (arith, i.0)))
+pub loop-rest-init : goal.loop-rest-init
+loop-rest-init c = (walked_none c.args.file.now, ap (λ (i : ℕ). drop i c.args.file.now) (sym (start_none c.args.file.now)))
 
-pub returns-then-count-gt-MOST_TERMS : goal.returns-then-count-gt-MOST_TERMS
-returns-then-count-gt-MOST_TERMS c =
-    let file = c.args.file.now in
-    let i = c.loop-at.invariant in
-    found-bad file (bad-count file i.1 (omega (arith, i.0)) c.term_count-count.ensures.0 (omega arith))
+pub returns-then-blocks-eq-MOST_BLOCKS : goal.returns-then-blocks-eq-MOST_BLOCKS
+returns-then-blocks-eq-MOST_BLOCKS c =
+    let i = c.loop-rest.invariant in
+    found-bad _ (bad-many _ i.0 (more i (sym c.loop-rest-test.ensures)) (omega arith))
 
-pub returns-then-n-at : goal.returns-then-n-at
-returns-then-n-at c =
-    let file = c.args.file.now in
-    let i = c.loop-at.invariant in
-    found-bad file (bad-end file i.1 (omega (arith, i.0)) (omega (arith, i.1.few)) (omega (arith, i.0, c.term_count-count.ensures.0)))
+pub returns-in_default : goal.returns-in_default
+returns-in_default c =
+    let i = c.loop-rest.invariant in
+    found-bad _ (bad-split _ i.0 (more i (sym c.loop-rest-test.ensures)) (omega (arith, i.0.few)) (subst (λ (s : List ℕ). StartsWhole s → ⊥) i.1 c.in_default.ensures.none))
 
-pub loop-at-preserved : goal.loop-at-preserved
-loop-at-preserved c =
-    let file = c.args.file.now in
-    let i = c.loop-at.invariant in
-    (i.0, walked_more file i.1 (omega (arith, i.0)) (omega (arith, i.1.few)) c.term_count-count.ensures.0 (omega arith) (omega (arith, i.0)))
+pub loop-rest-preserved : goal.loop-rest-preserved
+loop-rest-preserved c =
+    let i = c.loop-rest.invariant in
+    let s = c.in-Some.ensures.some in (
+      walked_more _ i.0 (more i (sym c.loop-rest-test.ensures)) (omega (arith, i.0.few)) (subst StartsWhole i.1 s.0),
+      s.1.rest ∙ ap (λ (t : List ℕ). drop (2 + 4 * term_count t 0) t) i.1 ∙ behind-more _ _,
+    )
 
 pub returns : goal.returns
 returns c =
-    let file = c.args.file.now in
-    let i = c.loop-at.invariant in
-    found-good file (walked-good file i.1 (omega (arith, i.0))) (walked_all file i.1 (omega (arith, i.0)))
+    let i = c.loop-rest.invariant in
+    let e = ended i (sym c.loop-rest-test.ensures) in
+    found-good _ (walked-good _ i.0 e) (walked_all _ i.0 e)

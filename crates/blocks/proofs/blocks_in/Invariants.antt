@@ -1,11 +1,11 @@
 use mathlib.Core.Path.{◌≡◌}
-use Prim.Native.Nat.{◌-◌}
 use lib.ListN.{length}
+use Rattle.blocks.specs.Blocks.{behind}
 use Rattle.blocks.proofs.Blocks.{Walked}
 use Rattle.blocks.proofs.blocks_in.Given as goal
 
-abbrev pub invariant-loop-at : goal.invariant-loop-at
-invariant-loop-at l = (l.n ≡ length l.file) × Walked l.file l.b l.at
+abbrev pub invariant-loop-rest : goal.invariant-loop-rest
+invariant-loop-rest l = Walked l.file l.blocks × (l.rest ≡ behind l.file l.blocks)
 
-abbrev pub decreases-loop-at : goal.decreases-loop-at
-decreases-loop-at l = l.n - l.at
+abbrev pub decreases-loop-rest : goal.decreases-loop-rest
+decreases-loop-rest l = length l.rest

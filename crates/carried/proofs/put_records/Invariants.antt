@@ -1,14 +1,11 @@
-use mathlib.Core.Path.{◌≡◌}
-use mathlib.Core.List.{◌++◌}
-use Prim.Native.Nat.{◌-◌, ◌≤◌}
-use lib.ListN.{length, take, drop}
+use Rattle.std.proofs.Common.{◌≡◌, ◌++◌, take, drop}
 use Rattle.record.specs.Table.{records}
 use Rattle.record.specs.Sizes.{header_size, file_size}
 use Rattle.carried.specs.Carried.{carried_sum}
 use Rattle.carried.proofs.put_records.Given as goal
 
 abbrev pub invariant-loop-k : goal.invariant-loop-k
-invariant-loop-k l = (l.k ≤ l.n) × (l.out ≡ take header_size l.initial.out ++ records l.table l.k ++ drop (file_size l.k) l.initial.out) × (length l.out ≡ length l.initial.out) × (l.so_far ≡ carried_sum l.out l.k)
-
-abbrev pub decreases-loop-k : goal.decreases-loop-k
-decreases-loop-k l = l.n - l.k
+invariant-loop-k l = record {
+  laid : l.out ≡ take header_size l.initial.out ++ records l.table l.k ++ drop (file_size l.k) l.initial.out;
+  counted : l.so_far ≡ carried_sum l.out l.k;
+}

@@ -1,30 +1,33 @@
 use mathlib.Core.Path.{◌≡◌, refl, sym, ap, ◌∙◌}
 use mathlib.Core.Bool.{false}
 use mathlib.Core.List.{List}
-use Prim.Native.Nat.{ℕ}
+use Prim.Native.Nat.{ℕ, ◌+◌, ◌*◌}
 use native.Mathlib.Omega.{arith}
 use mir.Syntax.{w64}
-use mir.Val.{to_z, of_z}
 use mir.ValLaws.{to_z-of_z}
+use Rattle.std.proofs.Common.{rules, Ok, FitsSigned}
+use Rattle.std.proofs.lemmas.Result.{err_from_is_err_and}
 use Rattle.integers.specs.Sign.{above_zero, below_zero}
-use Rattle.refusals.specs.declared.Verdict.{Verdict}
-use Rattle.refusals.specs.declared.Verdict.TheVariants.{Accepted}
 use Rattle.component.specs.Limits.{most_entries}
-use Rattle.netlist.specs.Netlist.{Netlist, netlist_of}
+use Rattle.netlist.specs.Netlist.{Netlist}
+use Rattle.netlist.specs.Accepted.{AcceptedNetlist}
+use Rattle.netlist.specs.View.{facts_of}
+use Rattle.netlist.proofs.Whole.{accepted_netlist}
 use Rattle.flows.specs.Flows.{weight, constant}
-use Rattle.flows.specs.Verdict.{judged, judged_within, constant_by}
+use Rattle.flows.specs.Verdict.{judged, judged_within}
 use Rattle.headroom.specs.Headroom.{owed}
-use Rattle.judgement.proofs.Judged.{within-given}
-use Rattle.ceiling.specs.Ceiling.{no_place}
 use Rattle.headroom.proofs.Headroom.{headroom-natural}
-use Rattle.ceiling.proofs.Answer.{refused-is, accepted-is, judged-first, place-tests, constant-given, above-none, above-some, value-is, place-of, past_all, not-past, weight-there, owed-there}
+use Rattle.judgement.specs.Judged.{weight_at, weighing_of}
+use Rattle.judgement.specs.declared.Weighing.{Weighing}
+use Rattle.judgement.proofs.Judged.{giving-refused, giving-given, refused-back, given-back, within-given}
+use Rattle.ceiling.specs.Ceiling.{no_place}
+use Rattle.ceiling.proofs.Answer.{judged-first, place-tests, above-none, above-some, value-is, place-of, no-entry, an-entry, weight-there, owed-there}
 use Rattle.ceiling.proofs.ceiling_of.Goals as goal
-use Rattle.ceiling.proofs.ceiling_of.Goals.{After-struct_told-1, Else-u-eq-MOST_ENTRIES, In-Accepted, Start}
+use Rattle.ceiling.proofs.ceiling_of.Goals.{Start, In_ok-weighing}
 
--- the verdict, with room for all entries
 module _ (c : Start) where
   abbrev f : Netlist
-  f = netlist_of c.args.size c.args.table.now
+  f = facts_of c.args.netlist.now
 
   abbrev p : List ℕ
   p = c.args.proposal.now
@@ -35,70 +38,82 @@ module _ (c : Start) where
   abbrev d : ℕ
   d = c.args.colour
 
+  accepted : AcceptedNetlist (facts_of c.args.netlist.now)
+  accepted = accepted_netlist c.args.netlist.now.accepted
+
   roomy : judged_within f p most_entries ≡ judged f p
-  roomy = within-given f p most_entries (omega (arith, c.requires.accepted_netlist.facts.few_rows))
+  roomy = within-given f p most_entries (omega (arith, accepted.facts.few_rows))
 
--- an accepted proposal
-module _ (c : In-Accepted) where
-  within : judged_within (netlist_of c.args.size c.args.table.now) c.args.proposal.now most_entries ≡ Accepted
-  within = sym c.judge_entry-a.ensures.answer.0 ∙ c.in-Accepted.is
+-- an accepted proposal, and a place of its fabric
+module _ (c : In_ok-weighing) where
+  netlist : Netlist
+  netlist = facts_of c.args.netlist.now
 
-  ok : judged (netlist_of c.args.size c.args.table.now) c.args.proposal.now ≡ Accepted
-  ok = sym (within-given (netlist_of c.args.size c.args.table.now) c.args.proposal.now most_entries (omega (arith, c.requires.accepted_netlist.facts.few_rows))) ∙ within
+  ok : judged (facts_of c.args.netlist.now) c.args.proposal.now ≡ Ok tt
+  ok = sym (given-back (judged (facts_of c.args.netlist.now) c.args.proposal.now) c.in_ok-weighing.ensures.value).0
 
--- a place of its fabric, and its weight
-module _ (c : Else-u-eq-MOST_ENTRIES) where
-  place : no_place (netlist_of c.args.size c.args.table.now) c.args.queue c.args.colour ≡ false
-  place =
-      not-past (netlist_of c.args.size c.args.table.now) c.requires.accepted_netlist c.args.queue c.args.colour c.entry_of-u.ensures c.if-u-eq-MOST_ENTRIES.false
+  said : c.in_ok-weighing.weighing ≡ weighing_of (facts_of c.args.netlist.now) c.args.proposal.now c.in-Some.entry
+  said = (given-back (judged (facts_of c.args.netlist.now) c.args.proposal.now) c.in_ok-weighing.ensures.value).1
 
-  weight_is : c.judge_entry-a.result.weight ≡ above_zero (weight (netlist_of c.args.size c.args.table.now) c.args.proposal.now c.args.queue c.args.colour)
+  entry-is : (no_place (facts_of c.args.netlist.now) c.args.queue c.args.colour ≡ false) × (c.in-Some.entry ≡ 8 * c.args.queue + c.args.colour)
+  entry-is = an-entry (facts_of c.args.netlist.now) (accepted_netlist c.args.netlist.now.accepted) c.args.queue c.args.colour c.in-Some.ensures
+
+  weight_is : c.in_ok-weighing.weighing.weight ≡ above_zero (weight (facts_of c.args.netlist.now) c.args.proposal.now c.args.queue c.args.colour)
+  unfolding weighing_of
   weight_is =
-      c.judge_entry-a.ensures.answer.3 ∙ weight-there (netlist_of c.args.size c.args.table.now) c.requires.accepted_netlist c.args.queue c.args.colour c.entry_of-u.ensures c.args.proposal.now place (sym c.judge_entry-a.ensures.answer.0 ∙ c.in-Accepted.is)
+      ap (λ (w : Weighing). w.weight) said ∙ ap (weight_at (facts_of c.args.netlist.now) c.args.proposal.now) entry-is.1
+      ∙ weight-there (facts_of c.args.netlist.now) (accepted_netlist c.args.netlist.now.accepted) c.args.queue c.args.colour c.args.proposal.now entry-is.0
 
--- what is owed to the constant
-module _ (c : After-struct_told-1) where
-  owed-is : c.judge_entry-a.result.owed ≡ owed (netlist_of c.args.size c.args.table.now) c.args.proposal.now
-  owed-is = owed-there (owed (netlist_of c.args.size c.args.table.now) c.args.proposal.now) c.judge_entry-a.ensures.answer.4 (λ q. omega arith)
+  owed-is : (c.in_ok-weighing.weighing.weight ≡ 0 → ⊥) → c.in_ok-weighing.weighing.owed ≡ owed (facts_of c.args.netlist.now) c.args.proposal.now
+  unfolding weighing_of
+  owed-is n = owed-there (owed (facts_of c.args.netlist.now) c.args.proposal.now) (ap (λ (w : Weighing). w.owed) said) (λ z. n (ap (λ (w : Weighing). w.weight) said ∙ z))
 
-  constant-is : to_z w64 (of_z w64 c.judge_entry-a.result.judgement.constant) ≡ constant (netlist_of c.args.size c.args.table.now) c.args.proposal.now
-  constant-is =
-      to_z-of_z w64 c.judge_entry-a.result.judgement.constant (record { sfits = c.struct_told-1.given.1.0.1 })
-      ∙ constant-given (netlist_of c.args.size c.args.table.now) c.args.proposal.now c.args.queue c.args.colour (sym (within-given (netlist_of c.args.size c.args.table.now) c.args.proposal.now most_entries (omega (arith, c.requires.accepted_netlist.facts.few_rows))) ∙ (sym c.judge_entry-a.ensures.answer.0 ∙ c.in-Accepted.is)) (c.judge_entry-a.ensures.answer.1 ∙ ap (λ (v : Verdict). constant_by v (netlist_of c.args.size c.args.table.now) c.args.proposal.now) (within-given (netlist_of c.args.size c.args.table.now) c.args.proposal.now most_entries (omega (arith, c.requires.accepted_netlist.facts.few_rows))))
+  constant-is : c.in_ok-weighing.weighing.constant ≡ constant (facts_of c.args.netlist.now) c.args.proposal.now
+  unfolding weighing_of
+  constant-is = ap (λ (w : Weighing). w.constant) said
 
-pub returns-then-u-eq-MOST_ENTRIES : goal.returns-then-u-eq-MOST_ENTRIES
-returns-then-u-eq-MOST_ENTRIES c =
-    let start = (goal.at.returns-then-u-eq-MOST_ENTRIES c).Start in
-    let gone = past_all (f start) c.requires.accepted_netlist (q start) (d start) c.entry_of-u.ensures c.if-u-eq-MOST_ENTRIES.true in
-    refused-is (f start) (p start) (q start) (d start) c.refused-then-u-eq-MOST_ENTRIES.ensures (place-tests (f start) (p start) (q start) (d start) (ok (goal.at.returns-then-u-eq-MOST_ENTRIES c).In-Accepted) gone refl)
+pub returns-in_err-judge_answer : goal.returns-in_err-judge_answer
+returns-in_err-judge_answer c =
+    let start = (goal.at.returns-in_err-judge_answer c).Start in
+    let e = err_from_is_err_and c.from_residual.result c.from_residual.ensures.1 in
+    rw (e.1, e.2) (giving-refused _ (judged-first (f start) (p start) (q start) (d start) (refused-back (judged_within (f start) (p start) most_entries) _ c.in_err-judge_answer.ensures ∙ roomy start)))
 
-pub returns-then-a-eq0 : goal.returns-then-a-eq0
-returns-then-a-eq0 c =
-    let start = (goal.at.returns-then-a-eq0 c).Start in
-    let later = (goal.at.returns-then-a-eq0 c).Else-u-eq-MOST_ENTRIES in
-    refused-is (f start) (p start) (q start) (d start) c.refused-then-a-eq0.ensures (place-tests (f start) (p start) (q start) (d start) (ok (goal.at.returns-then-a-eq0 c).In-Accepted) (place later) (above-none (f start) (p start) (q start) (d start) (weight_is later) c.if-a-eq0.true))
+pub returns-in_default : goal.returns-in_default
+returns-in_default c =
+    let start = (goal.at.returns-in_default c).Start in
+    let fine = sym (roomy start) ∙ sym (given-back (judged_within (f start) (p start) most_entries) c.in_ok-judge_answer.ensures).0 in
+    giving-refused _ (place-tests (f start) (p start) (q start) (d start) fine (no-entry (f start) (accepted start) (q start) (d start) c.in_default.ensures) refl)
+
+pub returns-in_err-weighing : goal.returns-in_err-weighing
+returns-in_err-weighing c =
+    let start = (goal.at.returns-in_err-weighing c).Start in
+    let e = err_from_is_err_and c.from_residual-in_err-weighing.result c.from_residual-in_err-weighing.ensures.1 in
+    rw (e.1, e.2) (giving-refused _ (judged-first (f start) (p start) (q start) (d start) (refused-back (judged (f start) (p start)) _ c.in_err-weighing.ensures.value)))
+
+pub returns-then-weighing-eq0 : goal.returns-then-weighing-eq0
+returns-then-weighing-eq0 c =
+    let start = (goal.at.returns-then-weighing-eq0 c).Start in
+    let later = (goal.at.returns-then-weighing-eq0 c).In_ok-weighing in
+    giving-refused _ (place-tests (f start) (p start) (q start) (d start) (ok later) (entry-is later).0 (above-none (f start) (p start) (q start) (d start) (weight_is later) c.if-weighing-eq0.true))
 
 pub raise-left-requires : goal.raise-left-requires
 raise-left-requires c =
     let start = (goal.at.raise-left-requires c).Start in
-    let later = (goal.at.raise-left-requires c).After-struct_told-1 in
-    (omega (arith, headroom-natural (f start) (p start) c.requires.accepted_netlist, ap below_zero (constant-is later), ap above_zero (constant-is later), owed-is later), c.judge_entry-a.ensures.near)
+    let later = (goal.at.raise-left-requires c).In_ok-weighing in
+    let fits : FitsSigned w64 c.in_ok-weighing.weighing.constant = search rules in
+    let e = to_z-of_z w64 c.in_ok-weighing.weighing.constant fits ∙ constant-is later in
+    (omega (arith, headroom-natural (f start) (p start) (accepted start), ap below_zero e, ap above_zero e, owed-is later c.if-weighing-eq0.false), c.in_ok-weighing.ensures.near)
 
-pub capacity-requires : goal.capacity-requires
-capacity-requires c =
-    let start = (goal.at.capacity-requires c).Start in
-    omega (arith, (place-of (f start) (q start) (d start) (place (goal.at.capacity-requires c).Else-u-eq-MOST_ENTRIES)).0, c.requires.accepted_netlist.facts.long)
+pub capacity-most-requires : goal.capacity-most-requires
+capacity-most-requires c =
+    let start = (goal.at.capacity-most-requires c).Start in
+    omega (arith, (place-of (f start) (q start) (d start) (entry-is (goal.at.capacity-most-requires c).In_ok-weighing).0).0, c.args.netlist.now.same)
 
-pub returns-in-Refused : goal.returns-in-Refused
-returns-in-Refused c =
-    let start = (goal.at.returns-in-Refused c).Start in
-    refused-is (f start) (p start) (q start) (d start) c.refused.ensures (judged-first (f start) (p start) (q start) (d start) (sym c.in-Refused.is ∙ c.judge_entry-a.ensures.answer.0 ∙ roomy start))
-
-pub returns-else-a-eq0 : goal.returns-else-a-eq0
-returns-else-a-eq0 c =
-    let start = (goal.at.returns-else-a-eq0 c).Start in
-    let at-After-struct_told-1 = (goal.at.returns-else-a-eq0 c).After-struct_told-1 in
-    let at-Else-u-eq-MOST_ENTRIES = (goal.at.returns-else-a-eq0 c).Else-u-eq-MOST_ENTRIES in
-    accepted-is (f start) (p start) (q start) (d start)
-    (c.bounded.ensures ∙ value-is (f start) (p start) (q start) (d start) (constant-is at-After-struct_told-1) (owed-is at-After-struct_told-1) c.raise-left.ensures (weight_is at-Else-u-eq-MOST_ENTRIES) (c.wide-most.ensures.0 ∙ c.capacity.ensures))
-    (place-tests (f start) (p start) (q start) (d start) (ok (goal.at.returns-else-a-eq0 c).In-Accepted) (place at-Else-u-eq-MOST_ENTRIES) (above-some (f start) (p start) (q start) (d start) (weight_is at-Else-u-eq-MOST_ENTRIES) c.if-a-eq0.false))
+pub returns : goal.returns
+returns c =
+    let start = (goal.at.returns c).Start in
+    let later = (goal.at.returns c).In_ok-weighing in
+    let fits : FitsSigned w64 c.in_ok-weighing.weighing.constant = search rules in
+    let e = to_z-of_z w64 c.in_ok-weighing.weighing.constant fits ∙ constant-is later in
+    ap Ok (c.bounded.ensures ∙ value-is (f start) (p start) (q start) (d start) e (owed-is later c.if-weighing-eq0.false) c.raise-left.ensures (weight_is later) c.capacity-most.ensures)
+    ∙ giving-given (place-tests (f start) (p start) (q start) (d start) (ok later) (entry-is later).0 (above-some (f start) (p start) (q start) (d start) (weight_is later) c.if-weighing-eq0.false))

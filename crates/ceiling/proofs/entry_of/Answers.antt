@@ -1,41 +1,34 @@
-use mathlib.Core.Path.{◌≡◌, sym, ap, ◌∙◌}
-use mathlib.Core.Bool.{Bool, not}
-use Prim.Native.Nat.{◌<◌}
-use lib.Dec.{eqb}
-use borrow.Author.Tests.{eq-eqb, ne_eqb}
-use Rattle.netlist.specs.Netlist.{Netlist, netlist_of}
-use Rattle.ceiling.specs.Ceiling.{no_place}
-use Rattle.ceiling.proofs.Answer.{out-of-place, in_place, kind-decides, entry-by}
+use mathlib.Core.Path.{sym, ap, ◌∙◌}
+use mathlib.Core.Bool.{not}
+use native.Mathlib.Omega.{arith}
+use Rattle.component.specs.declared.kinds.Kind.{Kind}
+use Rattle.component.specs.Kind.{is_queue}
+use Rattle.netlist.specs.View.{facts_of}
+use Rattle.netlist.proofs.Whole.{accepted_netlist}
+use Rattle.sums.proofs.Sums.{not-queue}
+use Rattle.ceiling.proofs.Answer.{out-queue, out-colour, kind-decides, none-entry, some-entry}
 use Rattle.ceiling.proofs.entry_of.Goals as goal
-use Rattle.ceiling.proofs.entry_of.Goals.{After-kind, Else-size-queue}
-
--- a component and a colour of the fabric
-module _ (c : Else-size-queue) where
-  abbrev f : Netlist
-  f = netlist_of c.args.size c.args.table.now
-
-  inside : (c.args.queue < f.components) × (c.args.colour < f.colours)
-  inside = in_place f c.args.queue c.args.colour c.if-size-queue.false
-
--- its kind decides
-module _ (c : After-kind) where
-  decided : {b : Bool} → eqb c.kind.result 2 ≡ b → no_place (netlist_of c.args.size c.args.table.now) c.args.queue c.args.colour ≡ not b
-  decided e =
-      let a = c.args in
-      sym (kind-decides (netlist_of c.args.size c.args.table.now) a.queue a.colour c.if-size-queue.false c.kind.ensures) ∙ ap not e
+use Rattle.ceiling.proofs.entry_of.Goals.{then-size-queue-via-then-size-queue, then-size-queue-via-else-size-queue+then-size-colour}
 
 pub returns-then-size-queue : goal.returns-then-size-queue
-returns-then-size-queue c =
-    let a = c.args in
-    let f = netlist_of a.size a.table.now in
-    entry-by f a.queue a.colour (sym (out-of-place f a.queue a.colour c.if-size-queue.true))
+returns-then-size-queue c = none-entry (facts_of c.args.netlist.now) c.args.queue c.args.colour _ (elim c.then-size-queue.branch [
+  | then-size-queue-via-then-size-queue w ↦ out-queue (facts_of c.args.netlist.now) c.args.queue c.args.colour w.if-size-queue.true
+  | then-size-queue-via-else-size-queue+then-size-colour w ↦ out-colour (facts_of c.args.netlist.now) c.args.queue c.args.colour w.if-size-colour.true
+])
 
-pub returns-then-kind-ne2 : goal.returns-then-kind-ne2
-returns-then-kind-ne2 c =
-    let a = c.args in
-    entry-by (f (goal.at.returns-then-kind-ne2 c).Else-size-queue) a.queue a.colour (decided (goal.at.returns-then-kind-ne2 c).After-kind (ne_eqb c.kind.result 2 c.if-kind-ne2.true))
+pub overflow_mul-result : goal.overflow_mul-result
+overflow_mul-result c = record { fits = omega (arith, (accepted_netlist c.args.netlist.now.accepted).facts.few_rows) }
 
-pub returns : goal.returns
-returns c =
-    let a = c.args in
-    entry-by (f (goal.at.returns c).Else-size-queue) a.queue a.colour (decided (goal.at.returns c).After-kind (eq-eqb c.kind.result 2 c.if-kind-ne2.false))
+pub overflow_add-result : goal.overflow_add-result
+overflow_add-result c = let h = accepted_netlist c.args.netlist.now.accepted in record { fits = omega (arith, h.facts.few_rows, h.facts.few_colours) }
+
+pub returns-in-Queue : goal.returns-in-Queue
+unfolding is_queue
+returns-in-Queue c =
+    some-entry (facts_of c.args.netlist.now) c.args.queue c.args.colour
+    (kind-decides (facts_of c.args.netlist.now) c.args.queue c.args.colour (omega arith) (omega arith) ∙ ap (λ (k : Kind). not (is_queue k)) (sym c.kind.ensures ∙ c.in-Queue.is))
+
+pub returns-in_default : goal.returns-in_default
+returns-in_default c =
+    none-entry (facts_of c.args.netlist.now) c.args.queue c.args.colour _
+    (kind-decides (facts_of c.args.netlist.now) c.args.queue c.args.colour (omega arith) (omega arith) ∙ ap (λ (k : Kind). not (is_queue k)) (sym c.kind.ensures) ∙ ap not (sym (not-queue c.kind.result c.in_default.not-Queue)))

@@ -1,34 +1,38 @@
-use mathlib.Core.Path.{◌≡◌, sym, ap, ◌∙◌}
-use mathlib.Core.Bool.{true, not}
-use Prim.Native.Nat.{ℕ}
-use native.Mathlib.Omega.{arith}
-use lib.ListN.{length}
-use borrow.Author.Tests.{not-false}
-use borrow.Author.Count.{below_more}
-use Rattle.digits.proofs.Least.{least_at, least-none}
-use Rattle.netlist.specs.Netlist.{netlist}
-use Rattle.cells.specs.Choices.{choice_at, bad_choice}
-use Rattle.good.proofs.Sets.{choice-is}
+use Rattle.std.proofs.Common.{rules, sym, ◌∙◌, arith}
+use Rattle.netlist.specs.Netlist.{netlist_of}
+use Rattle.search.proofs.Laws.{first_least}
+use Rattle.good.proofs.Sets.{steps-fit, bad_here, choice-found, none-found}
 use Rattle.good.proofs.first_bad_choice.Goals as goal
 
-pub returns-then-not-good : goal.returns-then-not-good
-unfolding bad_choice choice_at
-returns-then-not-good c =
-    let g = c.loop-o in
-    let f = netlist 0 0 c.args.size.components c.args.table.now in
-    let e : c.in_set-good.result ≡ choice_at f c.args.choices.now g.o = c.in_set-good.ensures ∙ choice-is f _ c.args.choices.now g.invariant.0 c.requires.0 g.o in
-    sym (least_at (λ o. not (choice_at f c.args.choices.now o)) (length c.args.choices.now) g.o (omega (arith, c.requires.0, c.requires.1, c.loop-o-test.true, g.invariant.1)) (λ i h. ap not (g.invariant.2 i h)) (rw e at (ap not c.if-not-good.true)))
+pub overflow_mul-from : goal.overflow_mul-from
+overflow_mul-from c =
+    let l = steps-fit (netlist_of c.args.size c.args.table.now.bytes.now) _ c.args.choices.now c.choice_sets-sets.ensures c.requires.some _ c.allowed_steps.ensures in
+    omega (arith, l)
 
-pub loop-o-preserved : goal.loop-o-preserved
-loop-o-preserved c =
-    let g = c.loop-o in
-    let f = netlist 0 0 c.args.size.components c.args.table.now in
-    let e : c.in_set-good.result ≡ choice_at f c.args.choices.now g.o = c.in_set-good.ensures ∙ choice-is f _ c.args.choices.now g.invariant.0 c.requires.0 g.o in
-    (g.invariant.0, omega (arith, c.requires.0, c.requires.1, c.loop-o-test.true, g.invariant.1), below_more (λ (i : ℕ). choice_at f c.args.choices.now i ≡ true) g.o g.invariant.2 (sym e ∙ not-false _ (ap not c.if-not-good.false)))
+pub overflow_sub-choices : goal.overflow_sub-choices
+overflow_sub-choices c = steps-fit (netlist_of c.args.size c.args.table.now.bytes.now) _ c.args.choices.now c.choice_sets-sets.ensures c.requires.some _ c.allowed_steps.ensures
+
+pub returns-in_err-o : goal.returns-in_err-o
+returns-in_err-o c =
+    let f = netlist_of c.args.size c.args.table.now.bytes.now in
+    let z = c.choice_sets-sets.ensures in
+    let e = c.allowed_steps.ensures in
+    let found = c.first.ensures (bad_here f _ c.args.choices.now z c.requires.some _ e) (λ i b l p. search rules) in
+    c.from_residual.ensures ∙ none-found f _ c.args.choices.now z c.requires.some _ e (sym found ∙ c.in_err-o.was)
+
+pub overflow_add-result : goal.overflow_add-result
+overflow_add-result c =
+    let f = netlist_of c.args.size c.args.table.now.bytes.now in
+    let z = c.choice_sets-sets.ensures in
+    let e = c.allowed_steps.ensures in
+    let found = c.first.ensures (bad_here f _ c.args.choices.now z c.requires.some _ e) (λ i b l p. search rules) in
+    let few = first_least (bad_here f _ c.args.choices.now z c.requires.some _ e) _ c.in_ok-o.o (sym found ∙ c.in_ok-o.was) in
+    omega (arith, few.0, steps-fit f _ c.args.choices.now z c.requires.some _ e)
 
 pub returns : goal.returns
-unfolding bad_choice choice_at
 returns c =
-    let g = c.loop-o in
-    let f = netlist 0 0 c.args.size.components c.args.table.now in
-    sym (least-none (λ o. not (choice_at f c.args.choices.now o)) (length c.args.choices.now) (λ i h. ap not (g.invariant.2 i (omega (arith, c.loop-o-test.false)))))
+    let f = netlist_of c.args.size c.args.table.now.bytes.now in
+    let z = c.choice_sets-sets.ensures in
+    let e = c.allowed_steps.ensures in
+    let found = c.first.ensures (bad_here f _ c.args.choices.now z c.requires.some _ e) (λ i b l p. search rules) in
+    choice-found f _ c.args.choices.now z c.requires.some _ e c.in_ok-o.o (sym found ∙ c.in_ok-o.was)

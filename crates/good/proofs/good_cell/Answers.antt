@@ -1,21 +1,24 @@
-use mathlib.Core.Path.{sym, ◌∙◌}
-use lib.ListN.{get_or}
-use borrow.Author.Tests.{not-false, not-true}
+use Rattle.std.proofs.Common.{rules, ◌≡◌, not, ◌+◌, ◌-◌, ltb, eqb, get_or, sym, ap, ◌∙◌, arith}
+use borrow.Author.Tests.{not-true}
 use Rattle.record.specs.Table.{row}
 use Rattle.good.proofs.Cells.{cell-bad, cell-zeros, cell-colours}
-use Rattle.std.proofs.Common.{ap, not}
 use Rattle.good.proofs.good_cell.Goals as goal
 
-pub returns-then-not-first : goal.returns-then-not-first
-returns-then-not-first c = cell-bad _ _ _ (sym (c.first_good-first.ensures c.args.colours (get_or c.args.cell.now 0 0)) ∙ not-true _ (ap not c.if-not-first.true))
+pub returns-then-not-first_good : goal.returns-then-not-first_good
+returns-then-not-first_good c = cell-bad _ _ _ (sym (c.first_good.ensures c.args.colours (get_or c.args.cell.now 0 0)) ∙ not-true _ (ap not c.if-not-first_good.true))
 
-pub returns-then-kind-eq2 : goal.returns-then-kind-eq2
-returns-then-kind-eq2 c =
-    let z = c.args in
-    rw (c.colours_below-front.ensures, c.zeros-rest.ensures)
-    (cell-colours z.colours (row z.table.now z.k) z.cell.now (sym (c.first_good-first.ensures z.colours (get_or z.cell.now 0 0)) ∙ not-false _ (ap not c.if-not-first.false)) c.at_most_63-count.result c.at_most_63-count.ensures (sym c.kind.ensures ∙ c.if-kind-eq2.true))
+pub returns-in-Queue : goal.returns-in-Queue
+returns-in-Queue c =
+    let s = c.args.cell.now in
+    let n = c.from-count.result in
+    let r = row c.args.table.now.bytes.now c.args.k in
+    let e : c.from-rest.result ≡ 63 - n = omega arith in
+    rw (c.every.ensures (λ j. ltb (get_or s (1 + j) 0) c.args.colours) (λ j b l p. search rules), c.every-in-Queue.ensures (λ j. eqb (get_or s (n + 1 + j) 0) 0) (λ j b l p. search rules), e)
+    (cell-colours c.args.colours r s (sym (c.first_good.ensures c.args.colours (get_or s 0 0)) ∙ c.if-not-first_good.false) n (c.from-count.ensures ∙ c.min-n.ensures) (sym c.kind.ensures ∙ c.in-Queue.is))
 
-pub returns : goal.returns
-returns c =
-    let z = c.args in
-    c.zeros.ensures ∙ cell-zeros z.colours (row z.table.now z.k) z.cell.now (sym (c.first_good-first.ensures z.colours (get_or z.cell.now 0 0)) ∙ not-false _ (ap not c.if-not-first.false)) (λ q. c.if-kind-eq2.false (c.kind.ensures ∙ q))
+pub returns-in_default : goal.returns-in_default
+returns-in_default c =
+    let s = c.args.cell.now in
+    let r = row c.args.table.now.bytes.now c.args.k in
+    c.every-in_default.ensures (λ j. eqb (get_or s (1 + j) 0) 0) (λ j b l p. search rules)
+    ∙ cell-zeros c.args.colours r s (sym (c.first_good.ensures c.args.colours (get_or s 0 0)) ∙ c.if-not-first_good.false) (λ q. c.in_default.not-Queue (c.kind.ensures ∙ q))

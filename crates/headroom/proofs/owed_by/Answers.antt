@@ -16,7 +16,7 @@ use Rattle.headroom.proofs.owed_by.Goals.{After-below_zero}
 -- one summand
 module _ (c : After-below_zero) where
   abbrev weight : ℤ
-  weight = get_or c.args.w.now (8 * c.args.q + c.loop-d.d) (pos 0)
+  weight = get_or c.args.weights.now (8 * c.args.q + c.loop-d.d) (pos 0)
 
   near : nat_abs weight ≤ 2 ^ 40
   near =
@@ -32,15 +32,14 @@ module _ (c : After-below_zero) where
       omega (arith, mul-le-mul l m)
 
 pub loop-d-init : goal.loop-d-init
-loop-d-init c = (omega arith, sym (total-none _), omega arith)
+loop-d-init c = (sym (total-none _), omega arith)
 
 pub loop-d-preserved : goal.loop-d-preserved
 loop-d-preserved c =
     let later = (goal.at.loop-d-preserved c).After-below_zero in
     let i = c.loop-d.invariant in
     let d = c.loop-d.d in
-    let g : ℕ → ℕ = λ d. below_zero (get_or c.args.w.now (8 * c.args.q + d) (pos 0)) * c.args.capacity in (
-      omega arith,
-      ap₂ (λ (x y : ℕ). x + y * c.args.capacity) i.1 (below later) ∙ sym (total-more d g),
+    let g : ℕ → ℕ = λ d. below_zero (get_or c.args.weights.now (8 * c.args.q + d) (pos 0)) * c.args.capacity in (
+      ap₂ (λ (x y : ℕ). x + y * c.args.capacity) i.0 (below later) ∙ sym (total-more d g),
       omega (arith, one-le later, i),
     )

@@ -1,33 +1,65 @@
-use mathlib.Core.Path.{sym, ap, ◌∙◌}
-use lib.ListN.{length}
+use mathlib.Core.Path.{ap, sym, ◌∙◌}
+use Prim.Native.Nat.{ℕ, ◌*◌, ◌/◌, ◌≤◌}
+use native.Mathlib.Nat.{mul-le-mul_left}
+use native.Mathlib.Omega.{arith}
+use lib.ListN.{length, get_or}
+use lib.IntN.{pos}
+use mir.Syntax.{w64}
+use mir.ValLaws.{to_z-of_z}
+use Rattle.std.proofs.Common.{rules, Ok, FitsSigned}
+use Rattle.std.proofs.lemmas.Result.{err_from_is_err_and}
 use Rattle.integers.proofs.Tables.{summed-zeros}
-use Rattle.refusals.specs.declared.Verdict.{Verdict}
+use Rattle.refusals.specs.Room.{room_for}
+use Rattle.refusals.proofs.Room.{room-space}
 use Rattle.component.specs.Limits.{most_entries}
-use Rattle.netlist.specs.Netlist.{netlist_of}
-use Rattle.flows.specs.Verdict.{table_by}
-use Rattle.judgement.proofs.Judged.{within-judged, within_both, table_kept, table_is}
+use Rattle.netlist.specs.View.{facts_of}
+use Rattle.netlist.proofs.Whole.{accepted_netlist}
+use Rattle.flows.specs.Flows.{entry}
+use Rattle.flows.specs.Verdict.{judged}
+use Rattle.judgement.proofs.Judged.{giving-refused, giving-given, refused-back, given-back, within-refused, within-room-for, written-refused, written-given}
 use Rattle.judgement.proofs.judge.Goals as goal
 
-pub weigh-j-requires : goal.weigh-j-requires
-weigh-j-requires c = record { accepted_netlist = c.requires.accepted_netlist; known = c.requires.known; weights_empty = summed-zeros most_entries }
+pub weigh-requires : goal.weigh-requires
+weigh-requires g c =
+    record { weights_empty = summed-zeros most_entries }
 
-pub returns-in-Refused : goal.returns-in-Refused
-returns-in-Refused c =
-    let f = netlist_of c.args.size c.args.table.now in
-    let p = c.args.proposal.now in
-    let j = c.weigh-j.ensures in
-    let t = c.args.weights.now in
-    let q = within_both f p (length t) j.verdict.0 j.verdict.1 c.with_room-judged.ensures in
-    (q.0, q.1, table_kept f p t (sym c.in-Refused.is ∙ q.0))
+pub returns-in_err-constant-clause-constant : goal.returns-in_err-constant-clause-constant
+returns-in_err-constant-clause-constant g c =
+    let p = err_from_is_err_and c.from_residual.result c.from_residual.ensures.1 in
+    rw (p.1, p.2) (giving-refused _ (within-refused (facts_of c.args.coloured.now.netlist) c.args.proposal.now (length c.args.out.now / g.E.Entry.WIDTH) (refused-back (judged (facts_of c.args.coloured.now.netlist) c.args.proposal.now) _ c.in_err-constant.ensures.constant)))
 
-pub returns-in-Accepted : goal.returns-in-Accepted
-returns-in-Accepted c =
-    let f = netlist_of c.args.size c.args.table.now in
-    let p = c.args.proposal.now in
-    let j = c.weigh-j.ensures in
-    let t = c.args.weights.now in
-    let k = c.with_room-judged in
-    let q = within_both f p (length t) j.verdict.0 j.verdict.1 k.ensures in
-    let ok = c.in-Accepted.is in
-    let w = j.weights (within-judged f p (length t) j.verdict.0 (sym k.ensures.0 ∙ ok)) in
-    (q.0, q.1, c.write_entries.ensures ∙ table_is f p w t ∙ ap (λ (x : Verdict). table_by x f p t) (sym ok ∙ q.0))
+pub returns-in_err-constant-clause-weights : goal.returns-in_err-constant-clause-weights
+returns-in_err-constant-clause-weights g c =
+    written-refused g.E.Entry.filled (facts_of c.args.coloured.now.netlist) c.args.proposal.now c.args.out.now (within-refused (facts_of c.args.coloured.now.netlist) c.args.proposal.now (length c.args.out.now / g.E.Entry.WIDTH) (refused-back (judged (facts_of c.args.coloured.now.netlist) c.args.proposal.now) _ c.in_err-constant.ensures.constant))
+
+pub overflow_mul-entries : goal.overflow_mul-entries
+overflow_mul-entries g c =
+    record { fits = omega (arith, (accepted_netlist c.args.coloured.now.netlist.accepted).facts.few_rows) }
+
+pub returns-in_err-room_for-clause-constant : goal.returns-in_err-room_for-clause-constant
+returns-in_err-room_for-clause-constant g c =
+    let p = err_from_is_err_and c.from_residual-in_err-room_for.result c.from_residual-in_err-room_for.ensures.1 in
+    rw (p.1, p.2) (giving-refused _ (within-room-for (facts_of c.args.coloured.now.netlist) c.args.proposal.now (length c.args.out.now / g.E.Entry.WIDTH) (given-back (judged (facts_of c.args.coloured.now.netlist) c.args.proposal.now) c.in_ok-constant.ensures.constant).0 (c.in_err-room_for.ensures ∙ ap (λ (w : ℕ). room_for (length c.args.out.now / w) (8 * c.args.coloured.now.netlist.size.components)) c.WIDTH.ensures)))
+
+pub returns-in_err-room_for-clause-weights : goal.returns-in_err-room_for-clause-weights
+returns-in_err-room_for-clause-weights g c =
+    written-refused g.E.Entry.filled (facts_of c.args.coloured.now.netlist) c.args.proposal.now c.args.out.now (within-room-for (facts_of c.args.coloured.now.netlist) c.args.proposal.now (length c.args.out.now / g.E.Entry.WIDTH) (given-back (judged (facts_of c.args.coloured.now.netlist) c.args.proposal.now) c.in_ok-constant.ensures.constant).0 (c.in_err-room_for.ensures ∙ ap (λ (w : ℕ). room_for (length c.args.out.now / w) (8 * c.args.coloured.now.netlist.size.components)) c.WIDTH.ensures))
+
+pub write_weights-requires : goal.write_weights-requires
+write_weights-requires g c =
+    let h = accepted_netlist c.args.coloured.now.netlist.accepted in
+    let l : 8 * c.args.coloured.now.netlist.size.components ≤ length c.args.out.now / g.E.Entry.WIDTH = room-space (length c.args.out.now / g.E.Entry.WIDTH) (8 * c.args.coloured.now.netlist.size.components) (sym (c.in_ok-room_for.ensures ∙ ap (λ (w : ℕ). room_for (length c.args.out.now / w) (8 * c.args.coloured.now.netlist.size.components)) c.WIDTH.ensures)) in
+    (omega (arith, h.facts.few_rows), omega (arith, g.met.E.Entry.some, mul-le-mul_left g.E.Entry.WIDTH l))
+
+pub returns-clause-constant : goal.returns-clause-constant
+returns-clause-constant g c =
+    let q = (given-back (judged (facts_of c.args.coloured.now.netlist) c.args.proposal.now) c.in_ok-constant.ensures.constant) in
+    let fits : FitsSigned w64 c.in_ok-constant.constant = search rules in
+    ap Ok (to_z-of_z w64 c.in_ok-constant.constant fits ∙ q.1) ∙ giving-given (within-room-for (facts_of c.args.coloured.now.netlist) c.args.proposal.now (length c.args.out.now / g.E.Entry.WIDTH) q.0 (c.in_ok-room_for.ensures ∙ ap (λ (w : ℕ). room_for (length c.args.out.now / w) (8 * c.args.coloured.now.netlist.size.components)) c.WIDTH.ensures))
+
+pub returns-clause-weights : goal.returns-clause-weights
+returns-clause-weights g c =
+    let f = (facts_of c.args.coloured.now.netlist) in
+    c.write_weights.ensures
+    ∙ g.met.E.Entry.same (λ (u : ℕ). get_or c.weigh.new.weights u (pos 0)) (entry f c.args.proposal.now) c.args.out.now (8 * f.components) c.in_ok-constant.ensures.weights.at
+    ∙ written-given g.E.Entry.filled f c.args.proposal.now c.args.out.now (within-room-for f c.args.proposal.now (length c.args.out.now / g.E.Entry.WIDTH) (given-back (judged (facts_of c.args.coloured.now.netlist) c.args.proposal.now) c.in_ok-constant.ensures.constant).0 (c.in_ok-room_for.ensures ∙ ap (λ (w : ℕ). room_for (length c.args.out.now / w) (8 * c.args.coloured.now.netlist.size.components)) c.WIDTH.ensures))

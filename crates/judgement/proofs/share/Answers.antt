@@ -1,36 +1,45 @@
-use mathlib.Core.Path.{ap, ◌∙◌}
-use Prim.Native.Nat.{◌+◌, ◌*◌, ◌^◌, ◌≤◌}
+use mathlib.Core.Path.{sym, ap, ap₂, ◌∙◌}
+use Prim.Native.Nat.{ℕ, ◌+◌, ◌*◌, ◌^◌, ◌≤◌, ◌<◌}
 use lib.ListN.{get_or}
-use lib.IntN.{ℤ, pos, nat_abs}
+use lib.IntN.{ℤ, pos, nat_abs, ◌*ℤ◌}
 use native.Mathlib.Omega.{arith}
 use Rattle.integers.proofs.Near.{mul-fits, multiplied, mul-near}
-use Rattle.judgement.proofs.Judged.{share-none, share-is}
+use Rattle.component.specs.Kind.{is_queue}
+use Rattle.netlist.proofs.Whole.{accepted_netlist}
+use Rattle.sums.proofs.Sums.{not-queue}
+use Rattle.judgement.proofs.Judged.{share-queue, share-other}
 use Rattle.judgement.proofs.share.Goals as goal
-use Rattle.judgement.proofs.share.Goals.{After-wide-colour}
+use Rattle.judgement.proofs.share.Goals.{After-filling}
 
 -- the weight of the fill colour
-module _ (c : After-wide-colour) where
+module _ (c : After-filling) where
   abbrev weight : ℤ
-  weight = get_or c.args.w.now (8 * c.args.q + c.wide-colour.result) (pos 0)
+  weight = get_or c.args.weights.now (8 * c.args.q + c.fill_colour.result) (pos 0)
 
   weight-near : nat_abs weight ≤ 2 ^ 40
   weight-near =
-      c.requires.weights_near.near (8 * c.args.q + c.wide-colour.result) (omega (arith, c.wide-colour.ensures.0 ∙ c.fill_colour.ensures, c.requires.in_table))
+      let h = accepted_netlist c.args.netlist.now.accepted in
+      let l : c.fill_colour.result < 8 = omega (arith, c.fill_colour.ensures, (h.facts.rows c.args.q c.requires.component).fill_colours, h.facts.few_colours) in
+      c.requires.weights_near.near (8 * c.args.q + c.fill_colour.result) (omega (arith, h.facts.few_rows))
 
-pub returns-then-kind-ne2 : goal.returns-then-kind-ne2
-returns-then-kind-ne2 c =
-    let a = c.args in
-    record { value = share-none a.table.now a.w.now a.q c.kind.ensures c.if-kind-ne2.true; near = omega arith }
+pub overflow_mul-result-in-Queue : goal.overflow_mul-result-in-Queue
+overflow_mul-result-in-Queue c =
+    let later = (goal.at.overflow_mul-result-in-Queue c).After-filling in
+    mul-fits (weight later) c.filling.result (weight-near later) c.filling.type_inv
 
-pub overflow_mul-result-2 : goal.overflow_mul-result-2
-overflow_mul-result-2 c =
-    let later = (goal.at.overflow_mul-result-2 c).After-wide-colour in
-    let y = c.wide-filling in mul-fits (weight later) y.result (weight-near later) y.ensures.1
+pub returns-in-Queue-clause-value : goal.returns-in-Queue-clause-value
+unfolding is_queue
+returns-in-Queue-clause-value c =
+    let later = (goal.at.returns-in-Queue-clause-value c).After-filling in
+    multiplied (weight later) c.filling.result (weight-near later) c.filling.type_inv
+    ∙ ap₂ (λ (d n : ℕ). get_or c.args.weights.now (8 * c.args.q + d) (pos 0) *ℤ pos n) c.fill_colour.ensures c.filling.ensures
+    ∙ sym (share-queue c.args.netlist.now.table.bytes.now c.args.weights.now c.args.q (rw (← c.kind.ensures, c.in-Queue.is)))
+
+pub returns-in-Queue-clause-near : goal.returns-in-Queue-clause-near
+returns-in-Queue-clause-near c =
+    let later = (goal.at.returns-in-Queue-clause-near c).After-filling in
+    let e = multiplied (weight later) c.filling.result (weight-near later) c.filling.type_inv in
+    omega (arith, ap nat_abs e, mul-near (weight later) c.filling.result (weight-near later) c.filling.type_inv)
 
 pub returns : goal.returns
-returns c =
-    let later = (goal.at.returns c).After-wide-colour in
-    let a = c.args in
-    let y = c.wide-filling in
-    let e = multiplied (weight later) y.result (weight-near later) y.ensures.1 in
-    record { value = e ∙ share-is a.table.now a.w.now a.q c.kind.ensures c.if-kind-ne2.false (y.ensures.0 ∙ c.filling.ensures) (c.wide-colour.ensures.0 ∙ c.fill_colour.ensures); near = omega (arith, ap nat_abs e, mul-near (weight later) y.result (weight-near later) y.ensures.1) }
+returns c = record { value = sym (share-other c.args.netlist.now.table.bytes.now c.args.weights.now c.args.q (rw (← c.kind.ensures) (sym (not-queue c.kind.result c.in_default.not-Queue)))); near = omega arith }

@@ -1,46 +1,41 @@
-use mathlib.Core.Path.{sym, ◌∙◌}
+use mathlib.Core.Path.{sym, ap₂, ◌∙◌}
 use native.Mathlib.Omega.{arith}
+use Rattle.std.proofs.lemmas.Result.{err_from_is_err_and}
 use Rattle.integers.proofs.Tables.{summed-zeros}
 use Rattle.component.specs.Limits.{most_flows}
-use Rattle.netlist.specs.Netlist.{netlist_of}
+use Rattle.netlist.specs.View.{facts_of}
+use Rattle.netlist.proofs.Whole.{accepted_netlist}
+use Rattle.flows.specs.Verdict.{giving}
 use Rattle.sums.proofs.Sums.{counts-near}
-use Rattle.judgement.proofs.Judged.{length-short, refused-is, judged-length, judged-term, sums-judged, sums-constant, all-weighed}
+use Rattle.judgement.proofs.Judged.{giving-refused, if-ok, length-short, judged-length, judged-term, sums-judged, constant-is, all-weighed}
 use Rattle.judgement.proofs.weigh.Goals as goal
 
-pub returns-then-bad_length : goal.returns-then-bad_length
-returns-then-bad_length c =
-    let all = let f = netlist_of c.args.size c.args.table.now in
-    let p = c.args.proposal.now in
-    refused-is f p c.refused.ensures (judged-length f p (sym c.bad_length.ensures ∙ c.if-bad_length.true)) in record { verdict = all.0; weights = all.1 }
+pub returns-then-bad_length-clause-constant : goal.returns-then-bad_length-clause-constant
+returns-then-bad_length-clause-constant c = giving-refused _ (judged-length (facts_of c.args.coloured.now.netlist) c.args.proposal.now (sym c.bad_length.ensures ∙ c.if-bad_length.true))
 
-pub add_terms-named-requires : goal.add_terms-named-requires
-add_terms-named-requires c =
-    let f = netlist_of c.args.size c.args.table.now in
-    let p = c.args.proposal.now in
-    let short = sym c.bad_length.ensures ∙ c.if-bad_length.false in
-    record { accepted_netlist = c.requires.accepted_netlist; short = length-short p short; sums_empty = summed-zeros most_flows; weights_empty = c.requires.weights_empty }
+pub add_terms-requires-clause-sums_empty : goal.add_terms-requires-clause-sums_empty
+add_terms-requires-clause-sums_empty c = summed-zeros most_flows
+
+pub returns-in_err-add_terms-clause-constant : goal.returns-in_err-add_terms-clause-constant
+returns-in_err-add_terms-clause-constant c =
+    let p = err_from_is_err_and c.from_residual.result c.from_residual.ensures.1 in
+    rw (p.1, p.2) (giving-refused _ (judged-term (facts_of c.args.coloured.now.netlist) c.args.proposal.now (sym c.bad_length.ensures ∙ c.if-bad_length.false) c.in_err-add_terms.ensures.verdict))
 
 pub judge_sums-requires : goal.judge_sums-requires
 judge_sums-requires c =
-    let f = netlist_of c.args.size c.args.table.now in
-    let p = c.args.proposal.now in
-    let short = sym c.bad_length.ensures ∙ c.if-bad_length.false in
-    let a = c.add_terms-named.ensures.sums c.in-Accepted.is in
-    record { accepted_netlist = c.requires.accepted_netlist; known = c.requires.known; sums = (a.flows.long, counts-near f c.requires.accepted_netlist p (omega (arith, length-short p short)) a) }
+    record { weights_near = counts-near (facts_of c.args.coloured.now.netlist) (accepted_netlist c.args.coloured.now.netlist.accepted) c.args.proposal.now (omega (arith, length-short c.args.proposal.now (sym c.bad_length.ensures ∙ c.if-bad_length.false))) c.in_ok-add_terms.ensures.sums }
 
-pub returns-in-Refused : goal.returns-in-Refused
-returns-in-Refused c =
-    let all = let f = netlist_of c.args.size c.args.table.now in
-    let p = c.args.proposal.now in
-    let short = sym c.bad_length.ensures ∙ c.if-bad_length.false in
-    refused-is f p c.refused-in-Refused.ensures (judged-term f p short (sym c.in-Refused.is ∙ c.add_terms-named.ensures.verdict)) in record { verdict = all.0; weights = all.1 }
+pub returns-clause-constant : goal.returns-clause-constant
+returns-clause-constant c =
+    let f = facts_of c.args.coloured.now.netlist in
+    let h = accepted_netlist c.args.coloured.now.netlist.accepted in
+    let added = c.in_ok-add_terms.ensures.sums in
+    c.judge_sums.ensures
+    ∙ ap₂ giving (sums-judged f h c.args.proposal.now added (sym c.bad_length.ensures ∙ c.if-bad_length.false) c.in_ok-add_terms.ensures.verdict) (constant-is f h c.args.proposal.now added)
 
-pub returns-in-Accepted : goal.returns-in-Accepted
-returns-in-Accepted c =
-    let f = netlist_of c.args.size c.args.table.now in
-    let p = c.args.proposal.now in
-    let short = sym c.bad_length.ensures ∙ c.if-bad_length.false in
-    let ok = c.in-Accepted.is in
-    let a = c.add_terms-named.ensures.sums ok in
-    let v = sums-judged f c.requires.accepted_netlist p a short (sym ok ∙ c.add_terms-named.ensures.verdict) in
-    record { verdict = (c.judge_sums.ensures.0 ∙ v, c.judge_sums.ensures.1 ∙ sums-constant f c.requires.accepted_netlist p a v); weights = (λ x. all-weighed f c.requires.accepted_netlist p a (counts-near f c.requires.accepted_netlist p (omega (arith, length-short p short)) a)) }
+pub returns-clause-weights : goal.returns-clause-weights
+returns-clause-weights c =
+    let f = facts_of c.args.coloured.now.netlist in
+    let h = accepted_netlist c.args.coloured.now.netlist.accepted in
+    let added = c.in_ok-add_terms.ensures.sums in
+    if-ok c.judge_sums.result (all-weighed f h c.args.proposal.now added (counts-near f h c.args.proposal.now (omega (arith, length-short c.args.proposal.now (sym c.bad_length.ensures ∙ c.if-bad_length.false))) added))

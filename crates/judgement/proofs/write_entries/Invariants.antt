@@ -1,13 +1,7 @@
 use mathlib.Core.Path.{◌≡◌}
-use mathlib.Core.List.{◌++◌}
-use Prim.Native.Nat.{◌-◌, ◌≤◌}
-use lib.ListN.{get_or, drop}
+use lib.ListN.{get_or}
 use lib.IntN.{pos}
-use Rattle.digits.specs.UpTo.{up_to}
 use Rattle.judgement.proofs.write_entries.Given as goal
 
 abbrev pub invariant-loop-u : goal.invariant-loop-u
-invariant-loop-u l = (l.u ≤ l.n) × (l.out ≡ up_to l.u (λ i. get_or l.w i (pos 0)) ++ drop l.u l.initial.out)
-
-abbrev pub decreases-loop-u : goal.decreases-loop-u
-decreases-loop-u l = l.n - l.u
+invariant-loop-u g l = l.out ≡ g.E.Entry.filled l.u (λ u. get_or l.entries u (pos 0)) l.initial.out

@@ -1,34 +1,33 @@
-use mathlib.Core.Path.{◌≡◌, ◌∙◌}
+use mathlib.Core.Path.{◌∙◌}
 use Prim.Native.Nat.{◌*◌, ◌≤◌}
 use native.Mathlib.Omega.{arith}
-use lib.ListN.{length}
 use Rattle.component.specs.Limits.{most_flows}
-use Rattle.netlist.specs.Netlist.{netlist_of}
-use Rattle.reach.specs.Known.{SetBytes}
-use Rattle.leftover.proofs.Leftover.{zeros-below, first-le, flows-in, inside-none, inside_is}
+use Rattle.netlist.proofs.Whole.{accepted_netlist}
+use Rattle.leftover.proofs.Leftover.{first-below, zeros-below, flows-in, inside-none, inside_is}
 use Rattle.leftover.proofs.flow_left.Goals as goal
 use Rattle.leftover.proofs.flow_left.Goals.{Start}
 
-flows-few : (b : Start) → 8 * b.args.size.channels ≤ most_flows
-flows-few b = omega (arith, b.requires.0.facts.few_channels)
+flows-few : (b : Start) → 8 * b.args.coloured.now.netlist.size.channels ≤ most_flows
+flows-few b = omega (arith, (accepted_netlist b.args.coloured.now.netlist.accepted).facts.few_channels)
 
--- the sets, where they are lent
-given : (b : Start) → (length b.args.sets.now ≡ 0 → ⊥) → SetBytes (netlist_of b.args.size b.args.table.now) b.args.sets.now
-given b ne = b.requires.1.given (omega arith)
+pub returns-in_err-first : goal.returns-in_err-first
+returns-in_err-first c = c.from_residual.ensures ∙ inside-none _ c.args.sums.now c.in_err-first.ensures
 
-pub returns-then-first-n : goal.returns-then-first-n
-returns-then-first-n c = inside-none (netlist_of c.args.size c.args.table.now) c.args.s.now c.lowest-first.ensures c.if-first-n.true
+pub lowest_in-requires-clause-flows : goal.lowest_in-requires-clause-flows
+lowest_in-requires-clause-flows c =
+    (omega (arith, first-below c.args.sums.now (8 * c.args.coloured.now.netlist.size.channels) c.in_ok-first.ensures), flows-few (goal.at.lowest_in-requires-clause-flows c).Start, flows-in (c.args.coloured.now.known c.in-Some.sets c.in-Some.is))
 
-pub lowest_in-requires : goal.lowest_in-requires
-lowest_in-requires c = (omega (arith, first-le c.args.s.now (8 * c.args.size.channels) c.lowest-first.ensures), flows-few (goal.at.lowest_in-requires c).Start, flows-in c.work_out.ensures.0, zeros-below c.args.s.now (8 * c.args.size.channels) c.lowest-first.ensures)
+pub lowest_in-requires-clause-zeros : goal.lowest_in-requires-clause-zeros
+lowest_in-requires-clause-zeros c = zeros-below c.args.sums.now (8 * c.args.coloured.now.netlist.size.channels) c.in_ok-first.ensures
 
-pub returns-then-sets-eq0 : goal.returns-then-sets-eq0
-returns-then-sets-eq0 c = c.lowest_in.ensures ∙ inside_is (netlist_of c.args.size c.args.table.now) c.args.s.now c.work_out.ensures.0
+pub lowest_in-requires-in-None-clause-flows : goal.lowest_in-requires-in-None-clause-flows
+lowest_in-requires-in-None-clause-flows c = (omega (arith, first-below c.args.sums.now (8 * c.args.coloured.now.netlist.size.channels) c.in_ok-first.ensures), flows-few (goal.at.lowest_in-requires-in-None-clause-flows c).Start, flows-in c.work_out-sets.ensures)
 
-pub lowest_in-requires-2 : goal.lowest_in-requires-2
-lowest_in-requires-2 c =
-    let start = (goal.at.lowest_in-requires-2 c).Start in
-    (omega (arith, first-le c.args.s.now (8 * c.args.size.channels) c.lowest-first.ensures), flows-few start, flows-in (given start c.if-sets-eq0.false), zeros-below c.args.s.now (8 * c.args.size.channels) c.lowest-first.ensures)
+pub lowest_in-requires-in-None-clause-zeros : goal.lowest_in-requires-in-None-clause-zeros
+lowest_in-requires-in-None-clause-zeros c = zeros-below c.args.sums.now (8 * c.args.coloured.now.netlist.size.channels) c.in_ok-first.ensures
 
-pub returns : goal.returns
-returns c = c.lowest_in-2.ensures ∙ inside_is (netlist_of c.args.size c.args.table.now) c.args.s.now (given (goal.at.returns c).Start c.if-sets-eq0.false)
+pub returns-in-Some : goal.returns-in-Some
+returns-in-Some c = c.lowest_in.ensures ∙ inside_is _ c.args.sums.now (c.args.coloured.now.known c.in-Some.sets c.in-Some.is)
+
+pub returns-in-None : goal.returns-in-None
+returns-in-None c = c.lowest_in-in-None.ensures ∙ inside_is _ c.args.sums.now c.work_out-sets.ensures

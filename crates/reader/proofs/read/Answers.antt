@@ -1,50 +1,30 @@
-use mathlib.Core.Path.{refl}
-use native.Mathlib.Omega.{arith}
-use Rattle.reader.proofs.Facts.{headed, read-refused, is-short, is-rejected, header-few, read_done, rows-front, rows-front-long}
-use Rattle.reader.proofs.Tests.{colours-lt}
+use Rattle.std.proofs.Common.{sym}
+use Rattle.std.proofs.Common.{ap, length, ◌∙◌}
+use Rattle.std.proofs.Common.{refl}
+use Rattle.std.proofs.lemmas.Result.{err_from_is_err_and}
+use Rattle.reader.proofs.Facts.{rows-front, read-field, read-kinds, read-miswired, read-passed, read-facts}
+use Rattle.record.proofs.Table.{length-rows}
 use Rattle.reader.proofs.read.Goals as goal
 
-pub returns-then-file-lt-HEADER_SIZE : goal.returns-then-file-lt-HEADER_SIZE
-returns-then-file-lt-HEADER_SIZE c = read-refused _ _ _ _ _ _ _ (is-short c.args.file.now (omega arith)) refl
+pub returns-in-Some-clause-answer : goal.returns-in-Some-clause-answer
+returns-in-Some-clause-answer c = read-field c.args.file.now c.in_ok-size.ensures.read (rows-front _ _ _ _ c.put_rows.ensures) c.in-Some.k (sym c.first_bad_record.ensures ∙ c.in-Some.is)
 
-pub read_header-requires : goal.read_header-requires
-read_header-requires c = rw c.header.ensures (colours-lt c.args.file.now)
+pub wire-requires-clause-kinds : goal.wire-requires-clause-kinds
+wire-requires-clause-kinds c = read-kinds c.args.file.now c.in_ok-size.ensures.read (rows-front _ _ _ _ c.put_rows.ensures) (sym c.first_bad_record.ensures ∙ c.in_default.is)
 
-pub put_rows-requires : goal.put_rows-requires
-put_rows-requires c =
-    let f = c.args.file.now in
-    let w = header-few f (omega arith) _ (headed f c.header.ensures c.read_header.ensures c.in-Fabric.is) in
-    (omega (arith, w.3), omega (arith, w.0, c.requires.0))
+pub returns-in_err-wire-clause-answer : goal.returns-in_err-wire-clause-answer
+returns-in_err-wire-clause-answer c =
+    let p = err_from_is_err_and c.from_residual-in_err-wire.result c.from_residual-in_err-wire.ensures.1 in
+    rw (p.1, p.2) (read-miswired c.args.file.now c.in_ok-size.ensures.read (rows-front _ _ _ _ c.put_rows.ensures) (sym c.first_bad_record.ensures ∙ c.in_default.is) c.in_err-wire.ensures.answer)
 
-pub overflow_mul-end : goal.overflow_mul-end
-overflow_mul-end c =
-    let f = c.args.file.now in
-    let w = header-few f (omega arith) _ (headed f c.header.ensures c.read_header.ensures c.in-Fabric.is) in
-    omega (arith, w.0)
+pub invariant_of-netlist : goal.invariant_of-netlist
+invariant_of-netlist c =
+    let f = read-facts c.args.file.now c.in_ok-size.ensures.read (rows-front _ _ _ _ c.put_rows.ensures) (sym c.first_bad_record.ensures ∙ c.in_default.is) c.in_ok-wire.ensures.wires in
+    record { same = refl; long = ap length (rows-front _ _ _ _ c.put_rows.ensures) ∙ length-rows _ _; accepted = ∣ record { ends = _; order = _; facts = f } ∣₁ }
 
-pub slice_bounds-read_table-end : goal.slice_bounds-read_table-end
-slice_bounds-read_table-end c =
-    let f = c.args.file.now in
-    let w = header-few f (omega arith) _ (headed f c.header.ensures c.read_header.ensures c.in-Fabric.is) in
-    omega (arith, w.0, c.requires.0, c.put_rows.auto.table)
+pub invariant_of-result : goal.invariant_of-result
+invariant_of-result c =
+    record { wires = ∣ read-facts c.args.file.now c.in_ok-size.ensures.read (rows-front _ _ _ _ c.put_rows.ensures) (sym c.first_bad_record.ensures ∙ c.in_default.is) c.in_ok-wire.ensures.wires ∣₁ }
 
-pub slice_bounds-read_table-end-in-Fabric : goal.slice_bounds-read_table-end-in-Fabric
-slice_bounds-read_table-end-in-Fabric c = rows-front-long _ _ _ _ c.put_rows.ensures
-
-pub read_table-requires : goal.read_table-requires
-read_table-requires c =
-    let f = c.args.file.now in
-    let w = header-few f (omega arith) _ (headed f c.header.ensures c.read_header.ensures c.in-Fabric.is) in
-    (record { few = w.0; few_colours = w.1; few_channels = w.2; long = w.3; is = rows-front _ _ _ _ c.put_rows.ensures }, record { zeros = c.requires.1.zeros; room = c.requires.1.room })
-
-pub returns-in-Rejected : goal.returns-in-Rejected
-returns-in-Rejected c =
-    let f = c.args.file.now in
-    read-refused _ _ _ _ _ _ _ (is-rejected f (omega arith) _ (headed f c.header.ensures c.read_header.ensures c.in-Rejected.is)) refl
-
-pub returns-in-Fabric : goal.returns-in-Fabric
-returns-in-Fabric c =
-    let r = c.put_rows.ensures in
-    let f = c.args.file.now in
-    let h = headed f c.header.ensures c.read_header.ensures c.in-Fabric.is in
-    read_done f (omega arith) _ h _ _ _ _ _ _ r (rows-front _ _ _ _ r) c.read_table.ensures
+pub returns-clause-answer : goal.returns-clause-answer
+returns-clause-answer c = read-passed c.args.file.now c.in_ok-size.ensures.read (rows-front _ _ _ _ c.put_rows.ensures) (sym c.first_bad_record.ensures ∙ c.in_default.is) c.in_ok-wire.ensures.answer

@@ -1,78 +1,79 @@
 use mathlib.Core.Path.{refl}
-use Rattle.rules.proofs.Seen.{source-a, sink-a, queue-a, queue-b, function-a, function-b, fork-a, fork-b, fork-c, join-a, join-b, join-c, switch-a, switch-b, switch-c, merge-a, merge-b, merge-c, last-rule}
-use Rattle.signals.proofs.Channels.{taken, offers, takes}
+use mathlib.Core.List.{[]}
+use Rattle.component.specs.Kind.{port_use}
+use Rattle.held.proofs.Values.{both_flags}
+use Rattle.rules.specs.Rules.{rule}
+use Rattle.signals.proofs.Channels.{takes, offers}
 use Rattle.signals.proofs.signal.Goals as goal
 
-pub returns-in-0 : goal.returns-in-0
-returns-in-0 c = offers c.requires c.in-0.is refl refl refl refl c.byte_of_offer.ensures (source-a c.source_offer.ensures)
+pub returns-in-SourceOffer : goal.returns-in-SourceOffer
+unfolding rule port_use
+returns-in-SourceOffer c = let z = c.args in offers z.place z.signals.now z.table.now.bytes.now z.cell.now z.choice c.in-SourceOffer.is c.requires.small _ c.from.ensures (c.source_offer.ensures)
 
-pub returns-in-3 : goal.returns-in-3
-returns-in-3 c = takes c.requires c.in-3.is refl refl refl refl c.bit_of.ensures (sink-a c.sink_take.ensures)
+pub returns-in-SinkTake : goal.returns-in-SinkTake
+unfolding rule port_use
+returns-in-SinkTake c = let z = c.args in takes z.place z.signals.now z.table.now.bytes.now z.cell.now z.choice c.in-SinkTake.is _ c.from-in-SinkTake.ensures (c.sink_take.ensures)
 
-pub returns-in-6 : goal.returns-in-6
-returns-in-6 c = takes c.requires c.in-6.is refl refl refl refl c.bit_of-in-6.ensures (queue-a c.queue_take.ensures)
+pub returns-in-QueueTake : goal.returns-in-QueueTake
+unfolding rule port_use
+returns-in-QueueTake c = let z = c.args in takes z.place z.signals.now z.table.now.bytes.now z.cell.now z.choice c.in-QueueTake.is _ c.from-in-QueueTake.ensures (c.queue_take.ensures)
 
-pub returns-in-7 : goal.returns-in-7
-returns-in-7 c = offers c.requires c.in-7.is refl refl refl refl c.byte_of_offer-in-7.ensures (queue-b c.queue_offer.ensures)
+pub returns-in-QueueOffer : goal.returns-in-QueueOffer
+unfolding rule port_use
+returns-in-QueueOffer c = let z = c.args in offers z.place z.signals.now z.table.now.bytes.now z.cell.now z.choice c.in-QueueOffer.is c.requires.small _ c.from-in-QueueOffer.ensures (c.queue_offer.ensures)
 
-pub returns-in-9 : goal.returns-in-9
-returns-in-9 c =
-    let u = c.requires in
-    takes u c.in-9.is refl refl (taken u.at_b c.take_at.ensures) refl c.bit_of-in-9.ensures (function-a refl)
+pub returns-in-FunctionTake : goal.returns-in-FunctionTake
+unfolding rule port_use
+returns-in-FunctionTake c = let z = c.args in takes z.place z.signals.now z.table.now.bytes.now z.cell.now z.choice c.in-FunctionTake.is _ c.from-in-FunctionTake.ensures (c.take_at.ensures)
 
-pub returns-in-10 : goal.returns-in-10
-returns-in-10 c = offers c.requires c.in-10.is c.offer_at.ensures refl refl refl c.byte_of_offer-in-10.ensures (function-b c.map_from.ensures)
+pub returns-in-FunctionOffer : goal.returns-in-FunctionOffer
+unfolding rule port_use
+returns-in-FunctionOffer c = let z = c.args in offers z.place z.signals.now z.table.now.bytes.now z.cell.now z.choice c.in-FunctionOffer.is c.requires.small _ c.from-in-FunctionOffer.ensures (rw (c.offer_at.ensures) at c.map_from.ensures)
 
-pub returns-in-12 : goal.returns-in-12
-returns-in-12 c =
-    let u = c.requires in
-    takes u c.in-12.is refl refl (taken u.at_b c.take_at-in-12.ensures) (taken u.at_c c.take_at-in-12-2.ensures) c.bit_of-in-12.ensures (fork-a c.both.ensures)
+pub returns-in-ForkTake : goal.returns-in-ForkTake
+unfolding rule port_use
+returns-in-ForkTake c = let z = c.args in takes z.place z.signals.now z.table.now.bytes.now z.cell.now z.choice c.in-ForkTake.is _ c.from-in-ForkTake.ensures (rw (c.take_at-in-ForkTake.ensures, c.take_at-in-ForkTake-2.ensures) at (both_flags c.take_at-in-ForkTake.result c.take_at-in-ForkTake-2.result))
 
-pub returns-in-13 : goal.returns-in-13
-returns-in-13 c =
-    let u = c.requires in
-    offers u c.in-13.is c.offer_at-in-13.ensures refl (taken u.at_b c.take_at-in-13.ensures) (taken u.at_c c.take_at-in-13-2.ensures) c.byte_of_offer-in-13.ensures (fork-b c.fork_offer.ensures)
+pub returns-in-ForkOfferB : goal.returns-in-ForkOfferB
+unfolding rule port_use
+returns-in-ForkOfferB c = let z = c.args in offers z.place z.signals.now z.table.now.bytes.now z.cell.now z.choice c.in-ForkOfferB.is c.requires.small _ c.from-in-ForkOfferB.ensures (rw (c.offer_at-in-ForkOfferB.ensures, c.take_at-in-ForkOfferB-2.ensures) at (c.fork_offer.ensures [] 0 0 refl))
 
-pub returns-in-14 : goal.returns-in-14
-returns-in-14 c =
-    let u = c.requires in
-    offers u c.in-14.is c.offer_at-in-14.ensures refl (taken u.at_b c.take_at-in-14.ensures) (taken u.at_c c.take_at-in-14-2.ensures) c.byte_of_offer-in-14.ensures (fork-c c.fork_offer-in-14.ensures)
+pub returns-in-ForkOfferC : goal.returns-in-ForkOfferC
+unfolding rule port_use
+returns-in-ForkOfferC c = let z = c.args in offers z.place z.signals.now z.table.now.bytes.now z.cell.now z.choice c.in-ForkOfferC.is c.requires.small _ c.from-in-ForkOfferC.ensures (rw (c.offer_at-in-ForkOfferC.ensures, c.take_at-in-ForkOfferC.ensures) at (c.fork_offer-in-ForkOfferC.ensures [] 0 0 refl))
 
-pub returns-in-15 : goal.returns-in-15
-returns-in-15 c =
-    let u = c.requires in
-    takes u c.in-15.is c.offer_at-in-15.ensures c.offer_at-in-15-2.ensures refl (taken u.at_c c.take_at-in-15.ensures) c.bit_of-in-15.ensures (join-a c.join_take.ensures)
+pub returns-in-JoinTakeA : goal.returns-in-JoinTakeA
+unfolding rule port_use
+returns-in-JoinTakeA c = let z = c.args in takes z.place z.signals.now z.table.now.bytes.now z.cell.now z.choice c.in-JoinTakeA.is _ c.from-in-JoinTakeA.ensures (rw (c.offer_at-in-JoinTakeA-2.ensures, c.take_at-in-JoinTakeA.ensures) at (c.join_take.ensures [] [] 0 0 refl))
 
-pub returns-in-16 : goal.returns-in-16
-returns-in-16 c =
-    let u = c.requires in
-    takes u c.in-16.is c.offer_at-in-16.ensures c.offer_at-in-16-2.ensures refl (taken u.at_c c.take_at-in-16.ensures) c.bit_of-in-16.ensures (join-b c.join_take-in-16.ensures)
+pub returns-in-JoinTakeB : goal.returns-in-JoinTakeB
+unfolding rule port_use
+returns-in-JoinTakeB c = let z = c.args in takes z.place z.signals.now z.table.now.bytes.now z.cell.now z.choice c.in-JoinTakeB.is _ c.from-in-JoinTakeB.ensures (rw (c.offer_at-in-JoinTakeB.ensures, c.take_at-in-JoinTakeB.ensures) at (c.join_take-in-JoinTakeB.ensures [] [] 0 0 refl))
 
-pub returns-in-17 : goal.returns-in-17
-returns-in-17 c = offers c.requires c.in-17.is c.offer_at-in-17.ensures c.offer_at-in-17-2.ensures refl refl c.byte_of_offer-in-17.ensures (join-c c.join_offer.ensures)
+pub returns-in-JoinOffer : goal.returns-in-JoinOffer
+unfolding rule port_use
+returns-in-JoinOffer c = let z = c.args in offers z.place z.signals.now z.table.now.bytes.now z.cell.now z.choice c.in-JoinOffer.is c.requires.small _ c.from-in-JoinOffer.ensures (rw (c.offer_at-in-JoinOffer.ensures, c.offer_at-in-JoinOffer-2.ensures) at (c.join_offer.ensures [] 0 0 0))
 
-pub returns-in-18 : goal.returns-in-18
-returns-in-18 c =
-    let u = c.requires in
-    takes u c.in-18.is c.offer_at-in-18.ensures refl (taken u.at_b c.take_at-in-18.ensures) (taken u.at_c c.take_at-in-18-2.ensures) c.bit_of-in-18.ensures (switch-a c.switch_take.ensures)
+pub returns-in-SwitchTake : goal.returns-in-SwitchTake
+unfolding rule port_use
+returns-in-SwitchTake c = let z = c.args in takes z.place z.signals.now z.table.now.bytes.now z.cell.now z.choice c.in-SwitchTake.is _ c.from-in-SwitchTake.ensures (rw (c.offer_at-in-SwitchTake.ensures, c.take_at-in-SwitchTake.ensures, c.take_at-in-SwitchTake-2.ensures) at (c.switch_take.ensures [] 0 0))
 
-pub returns-in-19 : goal.returns-in-19
-returns-in-19 c = offers c.requires c.in-19.is c.offer_at-in-19.ensures refl refl refl c.byte_of_offer-in-19.ensures (switch-b c.switch_offer.ensures)
+pub returns-in-SwitchOfferB : goal.returns-in-SwitchOfferB
+unfolding rule port_use
+returns-in-SwitchOfferB c = let z = c.args in offers z.place z.signals.now z.table.now.bytes.now z.cell.now z.choice c.in-SwitchOfferB.is c.requires.small _ c.from-in-SwitchOfferB.ensures (rw (c.offer_at-in-SwitchOfferB.ensures) at (c.switch_offer.ensures [] 0 0 0 0 refl))
 
-pub returns-in-20 : goal.returns-in-20
-returns-in-20 c = offers c.requires c.in-20.is c.offer_at-in-20.ensures refl refl refl c.byte_of_offer-in-20.ensures (switch-c c.switch_offer-in-20.ensures)
+pub returns-in-SwitchOfferC : goal.returns-in-SwitchOfferC
+unfolding rule port_use
+returns-in-SwitchOfferC c = let z = c.args in offers z.place z.signals.now z.table.now.bytes.now z.cell.now z.choice c.in-SwitchOfferC.is c.requires.small _ c.from-in-SwitchOfferC.ensures (rw (c.offer_at-in-SwitchOfferC.ensures) at (c.switch_offer-in-SwitchOfferC.ensures [] 0 0 0 0 refl))
 
-pub returns-in-21 : goal.returns-in-21
-returns-in-21 c =
-    let u = c.requires in
-    takes u c.in-21.is c.offer_at-in-21.ensures c.offer_at-in-21-2.ensures refl (taken u.at_c c.take_at-in-21.ensures) c.bit_of-in-21.ensures (merge-a c.merge_take.ensures)
+pub returns-in-MergeTakeA : goal.returns-in-MergeTakeA
+unfolding rule port_use
+returns-in-MergeTakeA c = let z = c.args in takes z.place z.signals.now z.table.now.bytes.now z.cell.now z.choice c.in-MergeTakeA.is _ c.from-in-MergeTakeA.ensures (rw (c.offer_at-in-MergeTakeA.ensures, c.offer_at-in-MergeTakeA-2.ensures, c.take_at-in-MergeTakeA.ensures) at (c.merge_take.ensures [] 0 refl))
 
-pub returns-in-22 : goal.returns-in-22
-returns-in-22 c =
-    let u = c.requires in
-    takes u c.in-22.is c.offer_at-in-22.ensures c.offer_at-in-22-2.ensures refl (taken u.at_c c.take_at-in-22.ensures) c.bit_of-in-22.ensures (merge-b c.merge_take-in-22.ensures)
+pub returns-in-MergeTakeB : goal.returns-in-MergeTakeB
+unfolding rule port_use
+returns-in-MergeTakeB c = let z = c.args in takes z.place z.signals.now z.table.now.bytes.now z.cell.now z.choice c.in-MergeTakeB.is _ c.from-in-MergeTakeB.ensures (rw (c.offer_at-in-MergeTakeB.ensures, c.offer_at-in-MergeTakeB-2.ensures, c.take_at-in-MergeTakeB.ensures) at (c.merge_take-in-MergeTakeB.ensures [] 0 refl))
 
-pub returns-in_default : goal.returns-in_default
-returns-in_default c =
-    let u = c.requires in
-    offers u (last-rule _ u.below u.used c.in_default.in_default-own.rest) c.offer_at-in_default.ensures c.offer_at-in_default-2.ensures refl refl c.byte_of_offer-in_default.ensures (merge-c c.merge_offer.ensures)
+pub returns-in-MergeOffer : goal.returns-in-MergeOffer
+unfolding rule port_use
+returns-in-MergeOffer c = let z = c.args in offers z.place z.signals.now z.table.now.bytes.now z.cell.now z.choice c.in-MergeOffer.is c.requires.small _ c.from-in-MergeOffer.ensures (rw (c.offer_at-in-MergeOffer.ensures, c.offer_at-in-MergeOffer-2.ensures) at (c.merge_offer.ensures [] 0 0))

@@ -1,4 +1,3 @@
-use mathlib.Core.Path.{◌∙◌}
 use native.Mathlib.Omega.{arith}
 use Rattle.record.specs.Table.{row}
 use Rattle.component.specs.Row.{has_colour, map_of}
@@ -9,4 +8,4 @@ pub loop-d-preserved : goal.loop-d-preserved
 loop-d-preserved c =
     let l = c.loop-d in
     let a = c.args in
-    (omega arith, image-more l.d (map_of a.second (row a.table.now a.k)) (has_colour a.set) l.invariant.1 (c.wide.ensures.0 ∙ c.map_of.ensures) c.one_if-made.ensures)
+    (omega arith, image-more l.d (map_of a.map (row a.table.now.bytes.now a.k)) (has_colour a.set) l.invariant.1 c.map_of.ensures c.one_if-made.ensures)

@@ -1,19 +1,13 @@
-use mathlib.Core.Path.{◌∙◌}
-use Rattle.component.specs.Kind.{port_of}
+use Rattle.netlist.proofs.Whole.{accepted_netlist}
 use Rattle.spread.proofs.Targets.{note-none, note-one, note-two}
 use Rattle.spread.proofs.note_inputs.Goals as goal
 
-pub returns-then-kind-eq0 : goal.returns-then-kind-eq0
-returns-then-kind-eq0 c = note-none _ c.requires.0 _ c.requires.1 _ c.requires.2 c.kind-kind.ensures c.if-kind-eq0.true
+pub returns-in-Source : goal.returns-in-Source
+returns-in-Source c = note-none _ (accepted_netlist c.args.netlist.now.accepted) _ c.requires.0 _ c.requires.1 c.kind.ensures c.in-Source.is
 
-pub returns-then-kind : goal.returns-then-kind
-unfolding port_of
-returns-then-kind c =
-    note-two _ c.requires.0 _ c.requires.1 _ c.requires.2 c.kind-kind.ensures c.if-kind-eq0.false
-    c.if-kind.true (c.wide.ensures.0 ∙ c.port.ensures) (c.wide-then-kind.ensures.0 ∙ c.port-then-kind.ensures)
+pub returns-in-Join : goal.returns-in-Join
+returns-in-Join c = note-two _ (accepted_netlist c.args.netlist.now.accepted) _ c.requires.0 _ c.requires.1 c.kind.ensures c.in-Join.is c.port.ensures c.port-in-Join.ensures
 
-pub returns-else-kind : goal.returns-else-kind
-unfolding port_of
-returns-else-kind c =
-    note-one _ c.requires.0 _ c.requires.1 _ c.requires.2 c.kind-kind.ensures c.if-kind-eq0.false c.if-kind.false
-    (c.wide.ensures.0 ∙ c.port.ensures)
+pub returns-in_default : goal.returns-in_default
+returns-in_default c =
+    note-one _ (accepted_netlist c.args.netlist.now.accepted) _ c.requires.0 _ c.requires.1 c.kind.ensures c.in_default.not-Source c.in_default.not-Join c.in_default.not-Merge c.port-in_default.ensures

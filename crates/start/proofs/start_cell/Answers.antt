@@ -1,18 +1,14 @@
-use mathlib.Core.Path.{◌≡◌, ◌∙◌}
-use Rattle.component.specs.Kind.{queue, kind_of}
+use Rattle.std.proofs.Common.{rules, ◌≡◌, arith}
+use Rattle.component.specs.declared.kinds.Kind.TheVariants.{Queue}
+use Rattle.record.specs.Table.{row}
+use Rattle.component.specs.Row.{kind}
 use Rattle.cells.specs.Start.{start_cell}
-use Rattle.start.proofs.Filled.{start-rest}
+use Rattle.start.proofs.Filled.{filled}
 use Rattle.start.proofs.start_cell.Goals as goal
 
-pub fill-requires : goal.fill-requires
-unfolding kind_of
-fill-requires c =
-    let k : kind_of c.args.kind ≡ queue = rw c.if-kind-eq2.true in
-    (c.clear.ensures, c.requires.1 k)
-
-pub returns-then-kind-eq2 : goal.returns-then-kind-eq2
-unfolding start_cell kind_of
-returns-then-kind-eq2 c = λ row en ec. rw (c.if-kind-eq2.true, en, ec) c.fill.ensures
-
-pub returns-else-kind-eq2 : goal.returns-else-kind-eq2
-returns-else-kind-eq2 c = λ row en ec. c.clear.ensures ∙ start-rest c.args.kind row c.if-kind-eq2.false
+pub returns-then-eq : goal.returns-then-eq
+unfolding start_cell
+returns-then-eq c =
+    let queue : kind (row c.args.table.now.bytes.now c.args.k) ≡ Queue = search rules in
+    rw (queue, ← c.filling-n.ensures, ← c.fill_colour.ensures)
+    (filled _ _ _ _ c.filling-n.result c.fill_colour.result (c.fill.ensures.after (λ y e. e)) (omega (arith, c.requires.long)) (omega arith) (omega (arith, c.requires.filling queue)) (c.fill-then-eq.ensures.after (λ y e. e)))

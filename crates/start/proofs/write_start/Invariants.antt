@@ -1,11 +1,7 @@
-use Prim.Native.Nat.{◌-◌}
 use Rattle.netlist.specs.Netlist.{netlist_of}
 use Rattle.cells.specs.Start.{start_at}
 use Rattle.cells.proofs.Cells.{Laid}
 use Rattle.start.proofs.write_start.Given as goal
 
 abbrev pub invariant-loop-k : goal.invariant-loop-k
-invariant-loop-k l = Laid (start_at (netlist_of l.size l.table)) l.size.components l.initial.state l.state l.k
-
-abbrev pub decreases-loop-k : goal.decreases-loop-k
-decreases-loop-k l = l.size.components - l.k
+invariant-loop-k l = Laid (start_at (netlist_of l.fn.size l.fn.table.bytes.now)) l.fn.size.components l.initial.state l.state l.k

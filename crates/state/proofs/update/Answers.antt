@@ -10,9 +10,9 @@ use Rattle.state.proofs.update.Goals as goal
 pub loop-k-init : goal.loop-k-init
 loop-k-init c = none-laid _ _ _
 
-pub cell_next-requires : goal.cell_next-requires
-cell_next-requires c =
-    let p = c.requires.0 in
+pub cell_next-requires-clause-movable : goal.cell_next-requires-clause-movable
+cell_next-requires-clause-movable c =
+    let p = c.requires.updatable in
     let l = c.loop-k in
     let h = c.loop-k-test.true in
     let w : cell_size * l.k + cell_size - cell_size * l.k ≡ cell_size = omega arith in
@@ -21,14 +21,14 @@ cell_next-requires c =
 pub loop-k-preserved : goal.loop-k-preserved
 unfolding next_at
 loop-k-preserved c =
-    let p = c.requires.0 in
+    let p = c.requires.updatable in
     let l = c.loop-k in
     let h = c.loop-k-test.true in
     let w : cell_size * l.k + cell_size - cell_size * l.k ≡ cell_size = omega arith in
     let u = l.invariant in
     let new = c.cell_next in
-    let long : length new.new.q ≡ cell_size = rw w at new.auto.q ∙ lent-long u h p.states in
-    rw w (laid_more u h p.states new.new.q long (rw (w, lent_is u h p.states) at new.ensures))
+    let long : length new.new.cell ≡ cell_size = rw w at new.auto.cell ∙ lent-long u h p.states in
+    rw w (laid_more u h p.states new.new.cell long (rw (w, lent_is u h p.states) at new.ensures))
 
 pub returns : goal.returns
 unfolding state_next

@@ -1,33 +1,6 @@
-use mathlib.Core.Path.{sym, ◌∙◌}
-use native.Mathlib.Omega.{arith}
-use Rattle.reader.specs.File.{netlist_in}
-use Rattle.reader.proofs.Opened.{opened, rest-refused}
-use Rattle.verdicts.specs.Tests.{step_tests}
+use Rattle.netlist.proofs.Whole.{accepted_fabric}
 use Rattle.verdicts.proofs.Tests.{testable}
-use Rattle.stepping.specs.Calls.{step_verdict}
-use Rattle.stepping.proofs.Calls.{judged}
 use Rattle.stepping.proofs.step_answer.Goals as goal
 
-pub overflow_mul-end : goal.overflow_mul-end
-overflow_mul-end c = omega (arith, (opened c.read.ensures c.in-Fabric.is).fits)
-
-pub slice_bounds-rows-end : goal.slice_bounds-rows-end
-slice_bounds-rows-end c = omega (arith, (opened c.read.ensures c.in-Fabric.is).fits, c.read.auto.table)
-
-pub slice_bounds-step_verdict-end : goal.slice_bounds-step_verdict-end
-slice_bounds-step_verdict-end c = (opened c.read.ensures c.in-Fabric.is).long
-
-pub step_verdict-requires : goal.step_verdict-requires
-step_verdict-requires c = testable (opened c.read.ensures c.in-Fabric.is).facts
-
-pub returns-in-Rejected : goal.returns-in-Rejected
-unfolding step_verdict
-returns-in-Rejected c =
-    let a = c.args in
-    rest-refused a.file.now (step_tests (netlist_in a.file.now) a.state.now a.choices.now a.space) (sym c.read.ensures.is ∙ c.in-Rejected.is)
-
-pub returns-in-Fabric : goal.returns-in-Fabric
-unfolding step_verdict
-returns-in-Fabric c =
-    let a = c.args in
-    judged (opened c.read.ensures c.in-Fabric.is) (λ g. step_tests g a.state.now a.choices.now a.space) c.step_verdict.ensures
+pub step_verdict-requires-clause-few : goal.step_verdict-requires-clause-few
+step_verdict-requires-clause-few c = testable (accepted_fabric c.in_ok-netlist.field-0.wires)

@@ -1,26 +1,29 @@
-use Prim.Native.Nat.{◌+◌, ◌-◌}
-use mathlib.Core.Path.{◌≡◌}
-use native.Mathlib.Omega.{arith}
+use Rattle.std.proofs.Common.{◌∙◌, refl, arith}
 use Rattle.plan.proofs.Plan.{is-planned}
-use Rattle.steps.proofs.Steps.{steps-along, run-ready, run_more, run_end}
+use Rattle.steps.proofs.Steps.{steps-along, run-start, run-ready, run_more, run_end}
 use Rattle.steps.proofs.run_steps.Goals as goal
 
-pub step_along-requires : goal.step_along-requires
-step_along-requires c =
-    let l = c.loop-j in
-    let n = c.args.size.components in
-    let few = c.requires.accepted.few_channels in
-    let w : l.at + n - l.at ≡ n = omega arith in
-    let p = is-planned c.requires.accepted _ _ (omega (arith, few)) c.lay_out.ensures in
-    (rw w (steps-along (run-ready c.requires l.invariant.0 c.loop-j-test.true) p), omega (arith, few, l.invariant.1))
+pub loop-step-init : goal.loop-step-init
+loop-step-init c =
+    let e = c.into_iter-step-iterator.ensures.into_iter_gives in
+    let s = c.chunks_exact-step-items.ensures in
+    rw (e, s.size, s.rest) (omega (arith, c.requires.accepted.some_rows), _, refl, run-start c.requires)
 
-pub loop-j-preserved : goal.loop-j-preserved
-loop-j-preserved c =
-    let l = c.loop-j in
-    let n = c.args.size.components in
-    let w : l.at + n - l.at ≡ n = omega arith in
-    let k = c.step_along in
-    (rw (rw w at k.ensures.0) (run_more c.requires l.invariant.0 c.loop-j-test.true), omega (arith, l.invariant.1, k.auto.signals))
+pub step_along-requires-clause-along : goal.step_along-requires-clause-along
+step_along-requires-clause-along c =
+    let l = c.loop-step in
+    let few = c.requires.accepted.few_channels in
+    let s = c.in-Some.ensures.steps.1 in
+    steps-along (run-ready c.requires l.invariant.3 _ _ s.0 (s.1 ∙ l.invariant.2)) (is-planned c.requires.accepted _ _ (omega (arith, few)) c.lay_out.ensures)
+
+pub loop-step-preserved : goal.loop-step-preserved
+loop-step-preserved c =
+    let l = c.loop-step in
+    let t = c.in-Some.ensures.steps in
+    let s = t.1 in
+    (omega (arith, t.0, l.invariant.0), _, t.0 ∙ l.invariant.2, rw c.step_along.ensures.state (run_more c.requires l.invariant.3 _ _ s.0 (s.1 ∙ l.invariant.2)))
 
 pub returns : goal.returns
-returns c = run_end c.loop-j.invariant.0 (omega (arith, c.loop-j-test.false))
+returns c =
+    let l = c.loop-step in
+    run_end l.invariant.3 (omega (arith, c.in-None.ensures.steps.1.0, l.invariant.2))

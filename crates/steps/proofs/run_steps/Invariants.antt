@@ -1,13 +1,10 @@
-use Prim.Native.Nat.{◌-◌, ◌/◌}
-use mathlib.Core.Path.{◌≡◌}
-use lib.ListN.{length}
-use Rattle.order.specs.Graph.{most_signals}
-use Rattle.netlist.specs.Netlist.{netlist_of}
+use Rattle.std.proofs.Common.{◌≡◌}
+use Rattle.netlist.specs.View.{facts_of}
 use Rattle.steps.proofs.Steps.{Running}
 use Rattle.steps.proofs.run_steps.Given as goal
 
-abbrev pub invariant-loop-j : goal.invariant-loop-j
-invariant-loop-j l = Running (netlist_of l.size l.table) l.initial.state l.choices l.state l.at l.j × (length l.signals ≡ most_signals)
-
-abbrev pub decreases-loop-j : goal.decreases-loop-j
-decreases-loop-j l = length l.choices / l.size.components - l.j
+abbrev pub invariant-loop-step : goal.invariant-loop-step
+invariant-loop-step l =
+    (goal.iterator-loop-step).can_next l.step-iterator × (goal.iterator-loop-step).is_finite l.step-iterator
+    × (l.step-iterator.size ≡ l.fabric.netlist.size.components)
+    × Running (facts_of l.fabric.netlist) l.initial.state l.choices l.state l.step-iterator.rest.now

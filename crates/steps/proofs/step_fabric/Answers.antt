@@ -1,6 +1,8 @@
-use lib.ListN.{length}
+use Rattle.std.proofs.Common.{length}
+use Rattle.netlist.proofs.Whole.{accepted_fabric}
 use Rattle.steps.proofs.Accepted.{can-step}
 use Rattle.steps.proofs.step_fabric.Goals as goal
 
-pub take_step-requires : goal.take_step-requires
-take_step-requires c = can-step c.args.state.now c.args.choices.now c.requires (length c.args.moves.now) c.step_verdict-verdict.ensures c.in-Accepted.is
+pub take_step-requires-clause-step : goal.take_step-requires-clause-step
+take_step-requires-clause-step c =
+    (can-step c.args.state.now c.args.choices.now (accepted_fabric c.args.fabric.now.wires) (length c.args.moves.now) c.step_verdict.ensures c.in_ok-step_verdict.was).0

@@ -9,7 +9,7 @@ use native.Mathlib.Omega.{arith}
 use Rattle.integers.specs.Sum.{same}
 use Rattle.integers.specs.Tables.{Near, Grown}
 use Rattle.integers.proofs.Near.{near-back, negated, negated-near}
-use Rattle.integers.proofs.Tables.{near-wider, near-grown, grown-is, grown-add, grown-neg, grown-still}
+use Rattle.integers.proofs.Tables.{near-wider, near-grown, grown-is, grown-add, grown-neg}
 use Rattle.component.specs.Limits.{most_flows}
 use Rattle.equations.specs.Numbers.{mapped_factor, all_factor, factor_of, InTable}
 use Rattle.equations.specs.declared.Equation.{Equation}
@@ -25,8 +25,8 @@ module _ (b : Start) where
   abbrev down : ℤ
   down = to_z w64 (of_z w64 (pos 0 -ℤ up))
 
-  within : {e : Equation} → b.args.e ≡ e → InTable b.args.table.now e
-  within g = subst (InTable b.args.table.now) g b.requires.in_table.1
+  within : {e : Equation} → b.args.equation ≡ e → InTable b.args.table.now.rows e
+  within g = subst (InTable b.args.table.now.rows) g b.requires.in_table.1
 
   up-near : nat_abs up ≤ 2 ^ 34
   up-near = near-back b.args.m (2 ^ 34) b.ranges.m b.requires.small
@@ -34,16 +34,16 @@ module _ (b : Start) where
   down-near : nat_abs down ≤ 2 ^ 34
   down-near = negated-near b.args.m b.requires.small
 
-  first : (B : ℕ) → 2 ^ 60 ≤ B → Near most_flows B b.args.s.now
+  first : (B : ℕ) → 2 ^ 60 ≤ B → Near most_flows B b.args.sums.now
   first B h = near-wider (2 ^ 60) B h b.requires.near
 
-  second : (c B : ℕ) → 2 ^ 60 + 2 ^ 34 * c ≤ B → {f : ℕ → ℤ} {t : List ℤ} → ((v : ℕ) → nat_abs (f v) ≤ c) → Grown most_flows b.args.s.now up f t → Near most_flows B t
+  second : (c B : ℕ) → 2 ^ 60 + 2 ^ 34 * c ≤ B → {f : ℕ → ℤ} {t : List ℤ} → ((v : ℕ) → nat_abs (f v) ≤ c) → Grown most_flows b.args.sums.now up f t → Near most_flows B t
   second c B h near r = near-grown (2 ^ 60) (2 ^ 34) c B b.requires.near up-near near h r
 
   -- the equation's factors, as the steps give them
-  equation-grown : {e : Equation} {t : List ℤ} → b.args.e ≡ e → Grown most_flows b.args.s.now b.args.m (factor_of b.args.table.now b.args.colours e) t
-      → Grown most_flows b.args.s.now b.args.m (factor_of b.args.table.now b.args.colours b.args.e) t
-  equation-grown g = grown-is refl (λ v l. ap (λ (x : Equation). factor_of b.args.table.now b.args.colours x v) (sym g))
+  equation-grown : {e : Equation} {t : List ℤ} → b.args.equation ≡ e → Grown most_flows b.args.sums.now b.args.m (factor_of b.args.table.now.bytes.now b.args.colours e) t
+      → Grown most_flows b.args.sums.now b.args.m (factor_of b.args.table.now.bytes.now b.args.colours b.args.equation) t
+  equation-grown g = grown-is refl (λ v l. ap (λ (x : Equation). factor_of b.args.table.now.bytes.now b.args.colours x v) (sym g))
 
   module _ {s t : List ℤ} {f : ℕ → ℤ} where
     up-grown : Grown most_flows s up f t → Grown most_flows s b.args.m f t
@@ -79,10 +79,6 @@ add_all-requires-in-All c =
     let start = (goal.at.add_all-requires-in-All c).Start in
     record { in_table = (c.requires.in_table.0, (within start c.in-All.is).within.1); near = second start 8 (2 ^ 61) (omega arith) (λ v. all_near c.args.colours c.in-All.plus v c.requires.in_table.0) c.add_all.ensures; small = down-near start }
 
-pub returns-in-Missing : goal.returns-in-Missing
-unfolding factor_of
-returns-in-Missing c = equation-grown (goal.at.returns-in-Missing c).Start c.in-Missing.is (grown-still _ c.requires.near.long (λ v l. refl))
-
 pub returns-in-One : goal.returns-in-One
 unfolding factor_of
 returns-in-One c =
@@ -105,7 +101,7 @@ pub returns-in-Mapped : goal.returns-in-Mapped
 unfolding factor_of
 returns-in-Mapped c =
     let start = (goal.at.returns-in-Mapped c).Start in
-    equation-grown start c.in-Mapped.is (down-grown start (mapped_factor c.args.table.now c.args.colours c.in-Mapped.from c.in-Mapped.component c.in-Mapped.second c.in-Mapped.to) (up-grown start c.add_flow-in-Mapped.ensures) c.add_mapped.ensures)
+    equation-grown start c.in-Mapped.is (down-grown start (mapped_factor c.args.table.now.bytes.now c.args.colours c.in-Mapped.from c.in-Mapped.component c.in-Mapped.map c.in-Mapped.to) (up-grown start c.add_flow-in-Mapped.ensures) c.add_mapped.ensures)
 
 pub returns-in-All : goal.returns-in-All
 unfolding factor_of

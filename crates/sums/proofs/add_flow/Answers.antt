@@ -12,5 +12,5 @@ use Rattle.sums.proofs.add_flow.Goals as goal
 
 pub returns : goal.returns
 returns c =
-    subst (λ (z : ℤ). Grown most_flows c.args.s.now c.args.m (same c.args.v) (set c.args.s.now c.args.v z)) (sym (added (get_or c.args.s.now c.args.v (pos 0)) c.args.m (2 ^ 62) (2 ^ 34) (c.requires.near.near c.args.v c.requires.in_sums) c.requires.small (omega arith)))
-    (grown-at c.args.s.now c.args.v c.args.m c.requires.near.long c.requires.in_sums)
+    subst (λ (z : ℤ). Grown most_flows c.args.sums.now c.args.m (same c.args.v) (set c.args.sums.now c.args.v z)) (sym (added (get_or c.args.sums.now c.args.v (pos 0)) c.args.m (2 ^ 62) (2 ^ 34) (c.requires.near.near c.args.v c.requires.in_sums) c.requires.small (omega arith)))
+    (grown-at c.args.sums.now c.args.v c.args.m c.requires.near.long c.requires.in_sums)

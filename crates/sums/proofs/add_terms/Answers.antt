@@ -1,46 +1,29 @@
-use mathlib.Core.Path.{◌≡◌, sym, subst, ◌∙◌}
-use Prim.Native.Nat.{ℕ, ◌/◌, ◌^◌}
-use lib.ListN.{length}
+use mathlib.Core.Path.{sym}
+use Prim.Native.Nat.{◌^◌}
 use native.Mathlib.Omega.{arith}
+use Rattle.std.proofs.lemmas.Result.{err_from_is_err_and}
 use Rattle.integers.proofs.Tables.{near-wider}
-use Rattle.netlist.specs.Netlist.{netlist_of}
-use Rattle.sums.specs.Sums.{Added}
-use Rattle.sums.proofs.Sums.{never, added_none, added_more, flows-near, counts-near, bad-here, bad-nowhere}
+use Rattle.netlist.proofs.Whole.{accepted_netlist}
+use Rattle.sums.proofs.Sums.{added_none, added_more, flows-near, counts-near, bad-here, bad-nowhere}
 use Rattle.sums.proofs.add_terms.Goals as goal
 
 pub loop-k-init : goal.loop-k-init
-loop-k-init c =
-    let f = netlist_of c.args.size c.args.table.now in
-    let p = c.args.proposal.now in (omega arith, added_none f c.requires.accepted_netlist p c.requires.sums_empty c.requires.weights_empty)
+loop-k-init c = added_none _ (accepted_netlist c.args.netlist.now.accepted) _ c.requires.sums_empty c.requires.weights_empty
 
-pub add_term-v-requires : goal.add_term-v-requires
-add_term-v-requires c =
-    let f = netlist_of c.args.size c.args.table.now in
-    let p = c.args.proposal.now in
-    let i = c.loop-k.invariant in
-    record { accepted_netlist = c.requires.accepted_netlist; in_proposal = omega arith; sums_near = flows-near f c.requires.accepted_netlist p (omega arith) i.1; weights_near = near-wider (2 ^ 40) (2 ^ 60) (omega arith) (counts-near f c.requires.accepted_netlist p (omega arith) i.1) }
+pub add_term-requires-clause-sums_near : goal.add_term-requires-clause-sums_near
+add_term-requires-clause-sums_near c = flows-near _ (accepted_netlist c.args.netlist.now.accepted) _ (omega arith) c.loop-k.invariant
 
-pub returns-in-Refused : goal.returns-in-Refused
-returns-in-Refused c =
-    let f = netlist_of c.args.size c.args.table.now in
-    let p = c.args.proposal.now in
-    let i = c.loop-k.invariant in
-    let v = sym c.in-Refused.is ∙ c.add_term-v.ensures.verdict in
-    record { verdict = bad-here f c.requires.accepted_netlist p i.1 v c.loop-k-test.true; sums = (λ x. absurd (never x)) }
+pub add_term-requires-clause-weights_near : goal.add_term-requires-clause-weights_near
+add_term-requires-clause-weights_near c = near-wider (2 ^ 40) (2 ^ 60) (omega arith) (counts-near _ (accepted_netlist c.args.netlist.now.accepted) _ (omega arith) c.loop-k.invariant)
+
+pub returns-in_err-add_term-clause-verdict : goal.returns-in_err-add_term-clause-verdict
+returns-in_err-add_term-clause-verdict c =
+    let p = err_from_is_err_and c.from_residual.result c.from_residual.ensures.1 in
+    rw (p.1, p.2) (bad-here _ (accepted_netlist c.args.netlist.now.accepted) _ c.loop-k.invariant c.in_err-add_term.ensures.verdict (omega arith))
 
 pub loop-k-preserved : goal.loop-k-preserved
 loop-k-preserved c =
-    let f = netlist_of c.args.size c.args.table.now in
-    let p = c.args.proposal.now in
-    let i = c.loop-k.invariant in
-    let a = c.add_term-v in
-    let ok = c.in-Accepted.is in
-    (omega arith, added_more f c.requires.accepted_netlist p i.1 (sym a.ensures.verdict ∙ ok) (a.ensures.flows ok) (a.ensures.counts ok))
+    added_more _ (accepted_netlist c.args.netlist.now.accepted) _ c.loop-k.invariant (sym c.in_ok-add_term.ensures.verdict) c.in_ok-add_term.ensures.flows c.in_ok-add_term.ensures.counts
 
-pub returns : goal.returns
-returns c =
-    let f = netlist_of c.args.size c.args.table.now in
-    let p = c.args.proposal.now in
-    let i = c.loop-k.invariant in
-    let e : c.loop-k.k ≡ length p / 4 = omega arith in
-    record { verdict = bad-nowhere f c.requires.accepted_netlist p i.1 e; sums = (λ x. subst (λ (k : ℕ). Added f p k c.loop-k.s c.loop-k.w) e i.1) }
+pub returns-clause-verdict : goal.returns-clause-verdict
+returns-clause-verdict c = bad-nowhere _ (accepted_netlist c.args.netlist.now.accepted) _ c.loop-k.invariant (omega arith)
