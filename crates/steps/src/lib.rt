@@ -37,7 +37,7 @@ const NO_PLACE: Place = Place {
 pub fn start_fabric(table: &Table, size: Size, state: &mut [u8]) -> Result<(), Refusal>
     requires few { size.components ≤ most_components }
     requires startable { cell_size * size.components ≤ length state.old → Startable table.now.bytes.now size.components state.old }
-    requires rows { size.components ≤ table.now.rows }
+    requires rows { cell_size * size.components ≤ length state.old → size.components ≤ table.now.rows }
     ensures answer { result ≡ first_refusal (start_tests (netlist_of size table.now.bytes.now) (length state.old)) }
     ensures state { state.new ≡ kept result (started (netlist_of size table.now.bytes.now) state.old) state.old }
 {
