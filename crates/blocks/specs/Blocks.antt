@@ -56,7 +56,7 @@ unfoldable pub each_block : {X : Type 0} → (List ℕ → List X) → List ℕ 
 each_block g file zero = []
 each_block g file (suc n) = each_block g file n ++ g (block file n)
 
--- ---- what the code asks for: n blocks that fill the file
+-- ---- what proofs use: n blocks that fill the file
 pub record Fills (file : List ℕ) (n : ℕ) : Type 0 where
   pub few : n ≤ most_blocks
   pub filled : block_start file n ≡ length file

@@ -35,19 +35,18 @@ pub fn split_block(file: &[u8]) -> Option<(&[u8], &[u8])>
     file[2..].split_at_checked(4 * count)
 }
 
-/// How many blocks fill the file, or 33.
+/// How many blocks fill the file; refused with 33 if none do.
 pub fn blocks_in(file: &[u8]) -> Result<usize, Refusal>
     ensures { result ≡ blocks_found file.now }
 {
+    // Each block says its own length, so no chunks of std fit, and an iterator of its own could not say why it ends: at the file's end or before a bad block.
     let mut rest = file;
     let mut blocks = 0;
     while !rest.is_empty() {
         if blocks == MOST_BLOCKS {
             return Err(Refusal::BadBlocks);
         }
-        let Some((_, after)) = split_block(rest) else {
-            return Err(Refusal::BadBlocks);
-        };
+        let (_, after) = split_block(rest).ok_or(Refusal::BadBlocks)?;
         rest = after;
         blocks += 1;
     }

@@ -1,15 +1,19 @@
 -- Laws of the byte sum that pack carries. Assumes nothing.
-use mathlib.Core.Path.{◌≡◌, ap, ap₂, sym, subst, ◌∙◌}
+use mathlib.Core.Path.{◌≡◌, refl, ap, ap₂, sym, subst, ◌∙◌}
 use Prim.Native.Nat.{ℕ, ◌+◌, ◌*◌, ◌%◌, ◌≤◌}
 use native.Mathlib.Nat.{mod-add-mod}
 use native.Mathlib.Omega.{arith}
 use mathlib.Core.List.{List, [], ◌∷◌, ◌++◌, append_assoc, append-nil}
+use borrow.Rule.Slice.PartMut.{put_mid}
+use Rattle.std.proofs.lemmas.Slice.{put_mid-paste}
 use lib.ListN.{length, take, drop, length-append}
 use lib.Seq.{paste, take_all, take_at, drop_at, take-append-le, take-append-add, drop-append-le, append_snoc, take-take, length-take-le, take-paste, slice_empty}
 use Rattle.digits.specs.Sum.{sum}
 use Rattle.digits.proofs.Sum.{sum-append}
+use Rattle.record.specs.Record.{record_bytes}
 use Rattle.record.specs.Table.{records}
 use Rattle.record.specs.Sizes.{header_size, record_size, file_size}
+use Rattle.record.proofs.Record.{length-record}
 use Rattle.record.proofs.Table.{length-records, records-front}
 use Rattle.carried.specs.Carried.{check_place, laid, carried_sum}
 
@@ -19,14 +23,13 @@ unfolding carried_sum
 carried_none o = ap (λ (l : List ℕ). sum l % 256) (ap (λ (l : List ℕ). take check_place o ++ l) (slice_empty header_size o) ∙ append-nil (take check_place o))
 
 -- ---- header bytes 0 to 2, laid
-pub front_counted : (h rest : List ℕ) → length h ≡ check_place → sum h % 256 ≡ carried_sum (h ++ rest) 0
-front_counted h rest three = sym (carried_none (h ++ rest) ∙ ap (λ (l : List ℕ). sum l % 256) (take_at h rest check_place three))
+pub front_counted : (h rest : List ℕ) {l : List ℕ} {r : ℕ} → length h ≡ check_place → l ≡ h → r ≡ sum h % 256 → r ≡ carried_sum (l ++ rest) 0
+front_counted h rest three e counted = counted ∙ rw e (sym (carried_none (h ++ rest) ∙ ap (λ (l : List ℕ). sum l % 256) (take_at h rest check_place three)))
 
 -- ---- a record more
-module _ (o : List ℕ) (k : ℕ) (b : List ℕ) (h : file_size k + record_size ≤ length o) (l : length b ≡ record_size) where
-  laid_more : laid (paste o (file_size k) b record_size) (k + 1) ≡ laid o k ++ b
+module _ (o : List ℕ) (k : ℕ) (b : List ℕ) (h : file_size k + record_size ≤ length o) (l : record_size ≤ length b) where
+  pub laid_more : laid (paste o (file_size k) b record_size) (k + 1) ≡ laid o k ++ take record_size b
   laid_more =
-      let all : take record_size b ≡ b = take_all record_size b (omega arith) in
       let long : length (take (file_size k) o) ≡ file_size k = length-take-le (file_size k) o (omega arith) in
       let e : file_size (k + 1) ≡ file_size k + record_size = omega arith in
       let front-stays : take check_place (paste o (file_size k) b record_size) ≡ take check_place o =
@@ -35,13 +38,25 @@ module _ (o : List ℕ) (k : ℕ) (b : List ℕ) (h : file_size k + record_size 
         take-append-le check_place (take (file_size k) o) (take record_size b) (omega arith),
       )
       (take-take check_place (file_size k) o (omega arith)) in
-      let rest-longer : drop header_size (take (file_size (k + 1)) (paste o (file_size k) b record_size)) ≡ drop header_size (take (file_size k) o) ++ b =
-      rw (e, take-paste o (file_size k) b record_size (omega arith) (omega arith), all) (drop-append-le header_size (take (file_size k) o) b (omega arith)) in
-      ap₂ ◌++◌ front-stays rest-longer ∙ sym (append_assoc (take check_place o) (drop header_size (take (file_size k) o)) b)
+      let rest-longer : drop header_size (take (file_size (k + 1)) (paste o (file_size k) b record_size)) ≡ drop header_size (take (file_size k) o) ++ take record_size b =
+      rw (e, take-paste o (file_size k) b record_size (omega arith) l) (drop-append-le header_size (take (file_size k) o) (take record_size b) (omega arith)) in
+      ap₂ ◌++◌ front-stays rest-longer ∙ sym (append_assoc (take check_place o) (drop header_size (take (file_size k) o)) (take record_size b))
 
-  pub carried_more : (carried_sum o k + sum b) % 256 ≡ carried_sum (paste o (file_size k) b record_size) (k + 1)
+  pub carried-more : (s r : ℕ) → s ≡ carried_sum o k → r ≡ (s + sum (take record_size b)) % 256 → r ≡ carried_sum (paste o (file_size k) b record_size) (k + 1)
   unfolding carried_sum
-  carried_more = rw (laid_more, sum-append (laid o k) b) (mod-add-mod (sum (laid o k)) 256 (sum b))
+  carried-more s r es er =
+      er ∙ ap (λ (x : ℕ). (x + sum (take record_size b)) % 256) es ∙ mod-add-mod (sum (laid o k)) 256 (sum (take record_size b))
+      ∙ ap (λ (x : ℕ). x % 256) (sym (sum-append (laid o k) (take record_size b)) ∙ ap sum (sym laid_more))
+
+-- what is laid and what is carried, where the part of record k now has b
+module _ (o : List ℕ) (k : ℕ) {w : ℕ} {new : List ℕ} where
+  pub record_laid : (row : List ℕ) {b r : List ℕ} → new ≡ b → b ≡ record_bytes r → r ≡ row → w ≡ record_size → put_mid (file_size k) w o new ≡ paste o (file_size k) (record_bytes row) record_size
+  record_laid row {b} {r} en eb er ew = put_mid-paste (file_size k) w o new b record_size en (sym ew) (rw eb (sym (length-record r))) ∙ ap (λ l. paste o (file_size k) l record_size) (eb ∙ ap record_bytes er)
+
+  pub record_counted : (r : List ℕ) {b : List ℕ} {c s : ℕ} → s ≡ (c + sum b) % 256 → c ≡ carried_sum o k → new ≡ b → b ≡ record_bytes r → w ≡ record_size → file_size k + record_size ≤ length o → s ≡ carried_sum (put_mid (file_size k) w o new) (k + 1)
+  record_counted r {b} {c} {s} es ec en eb ew h =
+      let all : take record_size (record_bytes r) ≡ record_bytes r = take_all record_size (record_bytes r) (rw (length-record r) (omega arith)) in
+      rw (record_laid r en eb refl ew) (carried-more o k (record_bytes r) h (rw (length-record r) (omega arith)) c s ec (rw all (es ∙ ap (λ (l : List ℕ). (c + sum l) % 256) eb)))
 
 -- ---- the header: bytes 0 to 2, and the check byte
 pub header-long : (front : List ℕ) (check : ℕ) → length front ≡ check_place → length (front ++ check ∷ []) ≡ header_size

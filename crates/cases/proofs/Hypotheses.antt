@@ -31,7 +31,8 @@ use Rattle.cells.proofs.Choices.{no-bad-choice}
 use Rattle.cells.proofs.Start.{good_start}
 use Rattle.plan.specs.Plan.{planned}
 use Rattle.plan.proofs.Plan.{is-planned}
-use Rattle.signals.specs.Signals.{value, moved}
+use Rattle.held.specs.declared.Channel.{Channel}
+use Rattle.signals.specs.Signals.{channel_of, moved}
 use Rattle.signals.specs.Channels.{Ready}
 use Rattle.state.specs.Step.{next, CanStep}
 use Rattle.state.specs.Updatable.{Updatable}
@@ -63,8 +64,8 @@ module _ (f : Netlist) (ends order : List ℕ) (a : AcceptedFabric f ends order)
       Ready f (up_to (2 * f.channels) (planned f order) ++ drop (2 * f.channels) memory) (started f state) choices
   ready-met memory l = steps-ready f ends order (started f state) choices steps-met (is-planned a memory _ l refl)
 
-  -- with the signals in memory
-  pub updatable-met : (rest : List ℕ) → Updatable f.table f.components (started f state) (up_to (2 * f.channels) (value f (started f state) choices) ++ rest)
+  -- with the channels in memory
+  pub updatable-met : (rest : List Channel) → Updatable f.table f.components (started f state) (up_to f.channels (channel_of f (started f state) choices) ++ rest)
   updatable-met rest = updatable f ends order (started f state) choices steps-met _ rest refl
 
   pub netlist-met : AcceptedNetlist f

@@ -13,7 +13,7 @@ use reader::Buffers;
 use refusals::Refusal;
 use spread::ColouredNetlist;
 
-// The entry of a queue and a colour; none where that is no queue, or no colour of the fabric.
+// The entry of a queue and a colour, 8 * queue + colour as the document numbers them; none where that is no queue, or no colour of the fabric.
 fn entry_of(netlist: &Netlist, queue: u64, colour: u64) -> Option<usize>
     ensures { result ≡ cond (no_place (facts_of netlist.now) queue colour) None (Some (8 * queue + colour)) }
 {
@@ -31,10 +31,7 @@ fn entry_of(netlist: &Netlist, queue: u64, colour: u64) -> Option<usize>
 fn ceiling_of(netlist: &Netlist, proposal: &[u8], queue: u64, colour: u64) -> Result<usize, Refusal>
     ensures { result ≡ giving (placed (facts_of netlist.now) proposal.now queue colour) (ceiling (facts_of netlist.now) proposal.now queue colour) }
 {
-    let coloured = ColouredNetlist {
-        netlist: *netlist,
-        sets: None,
-    };
+    let coloured = ColouredNetlist::from(*netlist);
     let Some(entry) = entry_of(netlist, queue, colour) else {
         // What is wrong with the proposal is said first.
         judgement::judge_answer(&coloured, proposal, MOST_ENTRIES)?;

@@ -21,10 +21,7 @@ pub fn check_answer(file: &[u8], proposal: &[u8], space: usize) -> Result<i64, R
 {
     let mut buffers = Buffers::new();
     let netlist = buffers.read(file)?.netlist;
-    let coloured = ColouredNetlist {
-        netlist,
-        sets: None,
-    };
+    let coloured = ColouredNetlist::from(netlist);
     judgement::judge_answer(&coloured, proposal, space)
 }
 
@@ -36,9 +33,6 @@ pub fn check<E: Entry>(file: &[u8], proposal: &[u8], weights: &mut [E]) -> Resul
 {
     let mut buffers = Buffers::new();
     let netlist = buffers.read(file)?.netlist;
-    let coloured = ColouredNetlist {
-        netlist,
-        sets: None,
-    };
+    let coloured = ColouredNetlist::from(netlist);
     judgement::judge(&coloured, proposal, weights)
 }

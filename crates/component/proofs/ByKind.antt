@@ -1,16 +1,13 @@
 -- Laws by a kind and its number. Assumes nothing.
-use mathlib.Core.Path.{◌≡◌, refl, sym, ap, ◌∙◌}
+use mathlib.Core.Path.{◌≡◌, refl, sym}
 use mathlib.Core.Bool.{true, true≢false}
-use mathlib.Core.List.{List, [], ◌∷◌}
+use mathlib.Core.List.{[], ◌∷◌}
 use Prim.Native.Nat.{ℕ, zero, suc, ◌≤◌, ◌<◌}
 use native.Mathlib.Omega.{arith}
-use lib.Dec.{eqb}
-use borrow.Author.Tests.{ne_eqb}
 use Rattle.digits.proofs.Arms.{Rest}
 use Rattle.component.specs.declared.kinds.Kind.{Kind}
 use Rattle.component.specs.declared.kinds.Kind.TheVariants.{Source, Sink, Queue, Function, Fork, Join, Switch, Merge}
 use Rattle.component.specs.Kind.{kind_of, is_queue}
-use Rattle.component.specs.Row.{kind_number, kind}
 
 pub is-queue : (k : Kind) → is_queue k ≡ true → k ≡ Queue
 unfolding is_queue
@@ -49,14 +46,3 @@ pub last-kind : (n : ℕ) → 7 ≤ n → kind_of n ≡ Merge
 last-kind n l =
     by_number (λ i k. n ≡ i → k ≡ Merge) (λ q. absurd (omega arith)) (λ q. absurd (omega arith)) (λ q. absurd (omega arith)) (λ q. absurd (omega arith)) (λ q. absurd (omega arith)) (λ q. absurd (omega arith))
     (λ q. absurd (omega arith)) (λ i m q. refl) n refl
-
-pub no-queue : (P : Kind → Type 0) → P Source → P Sink → P Function → P Fork → P Join → P Switch → P Merge → (n : ℕ) → (n ≡ 2 → ⊥) → P (kind_of n)
-no-queue P a b d e f g h n z = by_number (λ i k. n ≡ i → P k) (λ q. a) (λ q. b) (λ q. absurd (z q)) (λ q. d) (λ q. e) (λ q. f) (λ q. g) (λ i l q. h) n refl
-
-pub queue-number : (n : ℕ) → eqb n 2 ≡ is_queue (kind_of n)
-unfolding is_queue
-queue-number = by_number (λ n k. eqb n 2 ≡ is_queue k) refl refl refl refl refl refl refl (λ n l. ne_eqb n 2 (λ e. omega arith))
-
--- the kind of a row, as the code reads it
-pub row-queue : (r : List ℕ) {x : ℕ} → x ≡ kind_number r → eqb x 2 ≡ is_queue (kind r)
-row-queue r {x} e = queue-number x ∙ ap (λ (n : ℕ). is_queue (kind_of n)) e

@@ -29,13 +29,6 @@ bit-zero bits i k e =
     let s : bits / 2 ^ k % 2 ^ (i + 1) ≡ 0 = sym (field bits (i + 1) k) ∙ ap (λ x. x / 2 ^ k) e ∙ zero-shr k in
     sym (mod-mod-pow (bits / 2 ^ k) i 1) ∙ ap (λ x. x % 2) s
 
--- past the colours: the lowest bit
-pub last_bit : (bits d : ℕ) → 7 ≤ d → eqb (bits % 2) 1 ≡ has_colour bits d
-last_bit bits d h =
-    let e : 7 - d ≡ 0 = omega arith in
-    let f : bits / 1 ≡ bits = omega arith in
-    rw (e, f)
-
 -- a bit that is set is of a colour below n
 pub bit_below : (bits n d : ℕ) → n ≤ 8 → bits * 2 ^ n % 256 ≡ 0 → d < 8 → bits / 2 ^ (7 - d) % 2 ≡ 1 → d < n
 bit_below bits n d l e h one = go (ltb d n) refl

@@ -1,18 +1,18 @@
 -- Laws of rows. Assumes nothing.
-use mathlib.Core.Path.{◌≡◌, refl, sym}
-use Prim.Native.Nat.{ℕ, zero, suc, ◌+◌, ◌*◌, ◌≤◌, ◌<◌}
+use mathlib.Core.Path.{◌≡◌, refl, ◌∙◌}
+use Prim.Native.Nat.{ℕ, zero, suc, ◌+◌, ◌≤◌, ◌<◌}
 use native.Mathlib.Omega.{arith}
 use mathlib.Core.Bool.{Bool, true, false, ◌&&◌, ◌||◌}
 use mathlib.Core.List.{List}
-use lib.ListN.{length, get_or, get_or-eq_default}
-use lib.Dec.{leb, eqb}
+use lib.ListN.{get_or, take, drop}
+use Rattle.std.proofs.lemmas.List.{get_or-take, get_or-drop}
+use lib.Dec.{leb, ltb, eqb}
 use borrow.Author.Tests.{leb-true}
-use Rattle.record.specs.Sizes.{row_size}
-use Rattle.record.specs.Table.{row}
-use Rattle.record.proofs.Table.{row-length}
+use Rattle.std.proofs.Common.{cond}
+use Rattle.std.proofs.lemmas.Bool.{le-ltb}
 use Rattle.component.specs.declared.kinds.Port.TheVariants.{A, B, C}
-use Rattle.component.specs.Kind.{kind_of, port_of, port_use, is_used, uses_first_map, uses_second_map, uses_mask, is_source, is_queue}
-use Rattle.component.specs.Row.{port, first_map, second_map, fits_below, map_ok, mask_ok, filling_ok, fill_colour_ok, row_ok}
+use Rattle.component.specs.Kind.{kind_of, port_use, is_used, uses_first_map, uses_second_map, uses_mask, is_source, is_queue}
+use Rattle.component.specs.Row.{fits_below, entry_ok, map_ok, mask_ok, filling_ok, fill_colour_ok, row_ok}
 
 -- what holds of 0 to 7 holds of each number that is at most 7
 pub each-kind : (P : ℕ → Type 0) → P 0 → P 1 → P 2 → P 3 → P 4 → P 5 → P 6 → P 7 → (k : ℕ) → k ≤ 7 → P k
@@ -49,36 +49,40 @@ numbered = each-kind Numbered
     (record { a = refl; b = refl; c = refl; first = refl; second = refl; mask = refl; src = refl; que = refl })
     (record { a = refl; b = refl; c = refl; first = refl; second = refl; mask = refl; src = refl; que = refl })
 
+-- the entries of a map, as a part of the row
+part-ok : (used : Bool) (n at : ℕ) (f : List ℕ) → map_ok used n (λ d. get_or (take 8 (drop at f)) d 0) ≡ map_ok used n (λ d. get_or f (at + d) 0)
+part-ok used n at f =
+    let e : (d : ℕ) → d < 8 → get_or (take 8 (drop at f)) d 0 ≡ get_or f (at + d) 0 = λ d h. get_or-take 8 (drop at f) d 0 h ∙ get_or-drop at f d 0 in
+    rw (e 0 (omega arith), e 1 (omega arith), e 2 (omega arith), e 3 (omega arith), e 4 (omega arith), e 5 (omega arith), e 6 (omega arith), e 7 (omega arith)) refl
+
 -- `row_ok` with the kind as a number, as the code computes it
 abbrev pub numbered_ok : ℕ → ℕ → List ℕ → Bool
 numbered_ok colours channels f =
     let kind : ℕ = get_or f 0 0 in
     leb kind 7
     && (fits_below true (get_or f 1 0) channels && fits_below (leb 2 kind) (get_or f 2 0) channels && fits_below (leb 4 kind) (get_or f 3 0) channels)
-    && map_ok (leb 3 kind && leb kind 5) colours (first_map f)
-    && map_ok (eqb kind 4) colours (second_map f)
+    && map_ok (leb 3 kind && leb kind 5) colours (λ d. get_or (take 8 (drop 4 f)) d 0)
+    && map_ok (eqb kind 4) colours (λ d. get_or (take 8 (drop 12 f)) d 0)
     && mask_ok (eqb kind 0 || eqb kind 6) (eqb kind 0) colours (get_or f 20 0)
     && filling_ok (eqb kind 2) (get_or f 21 0) (get_or f 22 0)
     && fill_colour_ok (eqb kind 2) colours (get_or f 22 0) (get_or f 23 0)
 
-pub numbered-row : (colours channels : ℕ) (f : List ℕ) → numbered_ok colours channels f ≡ row_ok colours channels f
+pub numbered_row : (colours channels : ℕ) (f : List ℕ) → numbered_ok colours channels f ≡ row_ok colours channels f
 unfolding row_ok
-numbered-row colours channels f = go (leb (get_or f 0 0) 7) refl
+numbered_row colours channels f = go (leb (get_or f 0 0) 7) refl
   where
     go : (b : Bool) → leb (get_or f 0 0) 7 ≡ b → numbered_ok colours channels f ≡ row_ok colours channels f
     go false e = rw e
     go true e =
         let n = numbered (get_or f 0 0) (leb-true (get_or f 0 0) 7 e) in
-        rw (e, n.a, n.b, n.c, n.first, n.second, n.mask, n.src, n.que)
+        rw (part-ok _ _ 4 f, part-ok _ _ 12 f, e, n.a, n.b, n.c, n.first, n.second, n.mask, n.src, n.que)
 
--- ---- the fields of row k of a table
--- past the row's end
-pub past_row : (t : List ℕ) (k j : ℕ) → row_size * k + row_size ≤ length t → row_size ≤ j → 0 ≡ get_or (row t k) j 0
-past_row t k j h l = let e : get_or (row t k) j 0 ≡ 0 = get_or-eq_default (row t k) 0 (omega (arith, row-length t k h)) in sym e
+-- ---- the entries of a map below d
+unfoldable pub entries_ok : Bool → ℕ → (ℕ → ℕ) → ℕ → Bool
+entries_ok used n map zero = true
+entries_ok used n map (suc d) = entries_ok used n map d && entry_ok used n map d
 
-pub port-field : (r : List ℕ) (p : ℕ) → p < 3 → get_or r (1 + p) 0 ≡ port r (port_of p)
-unfolding port_of
-port-field r zero h = refl
-port-field r (suc zero) h = refl
-port-field r (suc (suc zero)) h = refl
-port-field r (suc (suc (suc p))) h = absurd (omega arith)
+-- so many colours are mapped
+pub mapped_below : (used : Bool) (n d : ℕ) → ltb d (cond used n 0) ≡ (used && ltb d n)
+mapped_below true n d = refl
+mapped_below false n d = le-ltb d 0 (omega arith)

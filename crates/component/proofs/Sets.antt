@@ -71,10 +71,6 @@ has-none d = let e : 0 / 2 ^ (7 - d) ≡ 0 = zero_high (7 - d) in rw e
     zero_high : (k : ℕ) → 0 / 2 ^ k ≡ 0
     zero_high k = omega (arith, shr_le 0 k)
 
--- whether a set that was read has a colour
-pub has-read : (set d : ℕ) {r b : Bool} {w : ℕ} → r ≡ has_colour w d → w ≡ set → r ≡ b → has_colour set d ≡ b
-has-read set d e q t = ap (λ (x : ℕ). has_colour x d) (sym q) ∙ sym e ∙ t
-
 -- ---- one colour
 wrong : ℕ → ℕ → Bool
 wrong c d = differ (has_colour (128 / 2 ^ c) d) (eqb c d)

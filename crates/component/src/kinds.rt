@@ -17,6 +17,7 @@ pub enum Kind {
 }
 
 /// The kind that a byte says. A row whose kind is above 7 is refused; here it says a merge.
+// `From` and no `TryFrom`: a kind is read of rows that passed `row_ok`, and reading it cannot fail.
 impl From<u8> for Kind {
     ghost from_gives = { λ number kind. kind ≡ kind_of number };
 
@@ -43,7 +44,7 @@ pub enum Port {
     C,
 }
 
-/// Port 0 is A, port 1 is B, any other C.
+/// Port 0 is A, port 1 is B, any other C. It cannot fail, as the kind cannot.
 impl From<usize> for Port {
     ghost from_gives = { λ number port. port ≡ port_of number };
 

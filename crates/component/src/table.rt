@@ -10,6 +10,8 @@ use crate::kinds::{Kind, Map, Port};
 use record::ROW_SIZE;
 
 /// The open table of a fabric: its rows, one after the other.
+// Bytes and a count: who takes a table asks only that its bytes reach so far, and a slice of just its rows would ask more. A row is named by its number, which a channel's end
+// and a term hold too: a type for a row would ask for the same bound where it is made.
 #[derive(Clone, Copy, Debug)]
 pub struct Table<'a> {
     pub rows: usize,
@@ -45,7 +47,7 @@ impl<'a> Table<'a> {
         self.bytes[ROW_SIZE * k + j]
     }
 
-    // The same, and 0 past the row's end: read without a branch, so that it takes the same time either way.
+    // The same, and 0 past the row's end. The read hangs on no branch: which colour comes is close to random, and such a branch is mispredicted as often as not.
     fn field_or_0(&self, k: usize, j: usize) -> u8
         requires { k < self.now.rows }
         ensures { result ≡ get_or (row self.now.bytes.now k) j 0 }
@@ -78,7 +80,7 @@ impl<'a> Table<'a> {
         self.field(k, j)
     }
 
-    /// What a map makes of colour `d`.
+    /// What a map makes of colour `d`: one read, without a test.
     pub fn map_of(&self, k: usize, map: Map, d: usize) -> u8
         requires row { k < self.now.rows }
         requires colour { d < most_colours }
@@ -87,7 +89,7 @@ impl<'a> Table<'a> {
         self.field(k, map_start(map) + d)
     }
 
-    /// The same of any number.
+    /// The same of any number, for which a place past the row's end has to be left out.
     pub fn map_of_any(&self, k: usize, map: Map, d: usize) -> u8
         requires row { k < self.now.rows }
         requires byte { d < 256 }

@@ -1,12 +1,12 @@
 // Numbers as packed digits, most significant first, and byte sums.
 #![tactic(auto)]
 
-ghost use Rattle.std.specs.Prelude.{◌≡◌, ◌+◌, ◌%◌, ◌<◌, ◌≤◌, length, take};
-ghost use Rattle.std.proofs.Math.Seq.{paste};
+ghost use Rattle.std.specs.Prelude.{◌≡◌, ◌+◌, ◌%◌, ◌≤◌, length};
 ghost use Rattle.digits.specs.Packed.{joined, bytes};
 ghost use Rattle.digits.specs.Sum.{sum, negated};
 
 /// The number that `n` bytes make from index `at` on, the first the highest.
+// The place and the count stay beside the bytes, as in the definition: a part of the file would have to be led back to the file by each caller.
 #[tactic(auto, using(crate::proofs::Words::word_fits, crate::proofs::Words::word_more))]
 pub fn word(s: &[u8], at: usize, n: usize) -> u64
     requires { (at + n ≤ length s.now) × (n ≤ 7) }

@@ -2,15 +2,15 @@
 #![tactic(auto)]
 
 ghost use Rattle.std.specs.Prelude.{◌≡◌, ◌+◌, ◌*◌, ◌≤◌, ◌<◌};
-ghost use Rattle.netlist.specs.Netlist.{netlist_of};
-ghost use Rattle.equations.specs.Numbers.{equation_of, equation_at, equation_named};
+ghost use Rattle.netlist.specs.View.{drawn};
+ghost use Rattle.equations.specs.Numbers.{low_equation, high_equation, equation_of, equation_at, equation_named};
 ghost use Rattle.equations.specs.declared.Equation.TheVariants.{Mapped};
 
 use component::{Kind, Map, Port, Table};
-use netlist::Size;
+use netlist::Draft;
 use refusals::Refusal;
 
-/// The left side of an equation, each flow L(x,d) by its number 8x + d.
+/// The left side of an equation. L(x,d) is the flow of channel x and colour d, by its number 8x + d.
 #[derive(Clone, Copy, Debug, PartialEq, Eq)]
 pub enum Equation {
     /// L
@@ -64,34 +64,61 @@ fn mapped(of: Component, out: u8, map: Map, e: usize) -> Equation
     }
 }
 
-// The decision over kind and index: the equation of index `i` of a component, or 12 at the term that names it.
-#[tactic(auto, unfolding(crate::specs::Numbers::equation_of, crate::specs::Numbers::low_equation, crate::specs::Numbers::high_equation))]
+// The indexes 0 to 7 of each kind: a colour each.
+#[tactic(auto, unfolding(crate::specs::Numbers::low_equation))]
+fn low_equation(of: Component, colours: usize, i: usize, term: usize) -> Result<Equation, Refusal>
+    requires { i < 8 }
+    ensures { result ≡ low_equation of.kind of.a of.b of.c of.mask of.number colours i term }
+{
+    let Component { a, b, c, .. } = of;
+    let mask = usize::from(of.mask);
+    match of.kind {
+        _ if colours <= i => Err(Refusal::NoEquation(term)),
+        Kind::Source if component::has_colour(mask, i) => Err(Refusal::NoEquation(term)),
+        Kind::Source => Ok(Equation::One(flow(a, i))),
+        Kind::Sink => Err(Refusal::NoEquation(term)),
+        Kind::Queue => Ok(Equation::Two(flow(b, i), flow(a, i))),
+        Kind::Function | Kind::Fork => Ok(mapped(of, b, Map::First, i)),
+        Kind::Join => Ok(mapped(of, c, Map::First, i)),
+        Kind::Switch if component::has_colour(mask, i) => {
+            Ok(Equation::Two(flow(b, i), flow(a, i)))
+        }
+        Kind::Switch => Ok(Equation::One(flow(b, i))),
+        Kind::Merge => Ok(Equation::Three(flow(c, i), flow(a, i), flow(b, i))),
+    }
+}
+
+// The indexes 8 to 15: a fork's and a switch's for their other output, a colour each, and a join's 8.
+#[tactic(auto, unfolding(crate::specs::Numbers::high_equation))]
+fn high_equation(of: Component, colours: usize, i: usize, term: usize) -> Result<Equation, Refusal>
+    requires { (8 ≤ i) × (i < 16) }
+    ensures { result ≡ high_equation of.kind of.a of.b of.c of.mask of.number colours i term }
+{
+    let Component { a, b, c, .. } = of;
+    let d = i - 8;
+    match of.kind {
+        Kind::Join if i == 8 => Ok(Equation::All(flow(a, 0), flow(b, 0))),
+        Kind::Fork if d < colours => Ok(mapped(of, c, Map::Second, d)),
+        Kind::Switch if d < colours => {
+            if component::has_colour(usize::from(of.mask), d) {
+                Ok(Equation::One(flow(c, d)))
+            } else {
+                Ok(Equation::Two(flow(c, d), flow(a, d)))
+            }
+        }
+        _ => Err(Refusal::NoEquation(term)),
+    }
+}
+
+// The decision over kind and index: the equation of index `i` of a component, or 12 at the term that names it. The range first: one `match` on index and kind jumps twice a term,
+// and a check of 4,096 terms took up to 1.3 times as long.
+#[tactic(auto, unfolding(crate::specs::Numbers::equation_of))]
 fn equation_of(of: Component, colours: usize, i: usize, term: usize) -> Result<Equation, Refusal>
     ensures { result ≡ equation_of of.kind of.a of.b of.c of.mask of.number colours i term }
 {
-    let Component { a, b, c, .. } = of;
-    let mask = of.mask as usize;
-    match (of.kind, i) {
-        (Kind::Source, 0..=7) if i < colours && !component::has_colour(mask, i) => {
-            Ok(Equation::One(flow(a, i)))
-        }
-        (Kind::Queue, 0..=7) if i < colours => Ok(Equation::Two(flow(b, i), flow(a, i))),
-        (Kind::Function, 0..=7) if i < colours => Ok(mapped(of, b, Map::First, i)),
-        (Kind::Fork, 0..=7) if i < colours => Ok(mapped(of, b, Map::First, i)),
-        (Kind::Fork, 8..=15) if i - 8 < colours => Ok(mapped(of, c, Map::Second, i - 8)),
-        (Kind::Join, 0..=7) if i < colours => Ok(mapped(of, c, Map::First, i)),
-        (Kind::Join, 8) => Ok(Equation::All(flow(a, 0), flow(b, 0))),
-        (Kind::Switch, 0..=7) if i < colours && component::has_colour(mask, i) => {
-            Ok(Equation::Two(flow(b, i), flow(a, i)))
-        }
-        (Kind::Switch, 0..=7) if i < colours => Ok(Equation::One(flow(b, i))),
-        (Kind::Switch, 8..=15) if i - 8 < colours && !component::has_colour(mask, i - 8) => {
-            Ok(Equation::Two(flow(c, i - 8), flow(a, i - 8)))
-        }
-        (Kind::Switch, 8..=15) if i - 8 < colours => Ok(Equation::One(flow(c, i - 8))),
-        (Kind::Merge, 0..=7) if i < colours => {
-            Ok(Equation::Three(flow(c, i), flow(a, i), flow(b, i)))
-        }
+    match i {
+        0..=7 => low_equation(of, colours, i, term),
+        8..=15 => high_equation(of, colours, i, term),
         _ => Err(Refusal::NoEquation(term)),
     }
 }
@@ -121,18 +148,11 @@ fn equation_at(
 
 /// The equation of component `q` and index `i` that a term names; refused with 12 and the term's number if there is none.
 #[tactic(auto, unfolding(crate::specs::Numbers::equation_named))]
-pub fn equation_named(
-    table: &Table,
-    size: Size,
-    q: usize,
-    i: usize,
-    term: usize,
-) -> Result<Equation, Refusal>
-    requires { size.components ≤ table.now.rows }
-    ensures { result ≡ equation_named (netlist_of size table.now.bytes.now) q i term }
+pub fn equation_named(draft: &Draft, q: usize, i: usize, term: usize) -> Result<Equation, Refusal>
+    ensures { result ≡ equation_named (drawn draft.now) q i term }
 {
-    if size.components <= q {
+    if draft.size.components <= q {
         return Err(Refusal::NoEquation(term));
     }
-    equation_at(table, size.colours, q, i, term)
+    equation_at(&draft.table, draft.size.colours, q, i, term)
 }

@@ -36,11 +36,11 @@ length-header C N M k = length_fields (bytes header_size) (joined header_widths 
 
 -- bytes 0 to 2, whatever the check byte is
 module _ (c n m : ℕ) (hc : c < 8) (hn : n < 256) (hm : m < 256) where
-  pub header-front : (16 + c * 2) ∷ n ∷ m ∷ [] ≡ take check_place (header_bytes (c + 1) n m 0)
-  header-front = ap (take check_place) (header-bytes c n m 0 hc hn hm (omega arith))
+  pub header_front : (16 + c * 2) ∷ n ∷ m ∷ [] ≡ take check_place (header_bytes (c + 1) n m 0)
+  header_front = ap (take check_place) (header-bytes c n m 0 hc hn hm (omega arith))
 
   header-whole : (k : ℕ) → k < 256 → take check_place (header_bytes (c + 1) n m 0) ++ k ∷ [] ≡ header_bytes (c + 1) n m k
-  header-whole k hk = ap (λ (l : List ℕ). l ++ k ∷ []) (sym header-front) ∙ header-bytes c n m k hc hn hm hk
+  header-whole k hk = ap (λ (l : List ℕ). l ++ k ∷ []) (sym header_front) ∙ header-bytes c n m k hc hn hm hk
 
 -- ---- the whole file: header bytes 0 to 2, the check byte, the records
 module _ (c M N : ℕ) (t : List ℕ) (hc : c < 8) (h_n : N < 256) (h_m : M < 256) where
@@ -102,8 +102,8 @@ module _ (c M N : ℕ) (t : List ℕ) (hc : c < 8) (h_n : N < 256) (h_m : M < 25
         ap negated (es ∙ ap (λ (l : List ℕ). carried_sum l N) laid-parts ∙ carried-in front old t (drop (file_size N) o) N N three (le_refl N))
         ∙ negated-wraps (sum (front ++ records t N))
 
-    pub file-done : (o₃ : List ℕ) → o₃ ≡ take check_place o₂ ++ negated s ∷ drop header_size o₂ → o₃ ≡ packed_file (c + 1) M t N ++ drop (file_size N) o
-    file-done o₃ e₃ =
+    pub file_done : (o₃ : List ℕ) → o₃ ≡ take check_place o₂ ++ negated s ∷ drop header_size o₂ → o₃ ≡ packed_file (c + 1) M t N ++ drop (file_size N) o
+    file_done o₃ e₃ =
         let begins-so : take check_place o₂ ≡ front = ap (take check_place) laid-parts ∙ take_at front (old ∷ behind) check_place three in
         let ends_so : drop header_size o₂ ≡ behind = ap (drop header_size) (laid-parts ∙ sym (append_snoc front old behind)) ∙ drop_at (front ++ old ∷ []) behind header_size (header-long front old three) in
         e₃ ∙ rw (begins-so, ends_so, check-right) (sym (file-parts (drop (file_size N) o)))

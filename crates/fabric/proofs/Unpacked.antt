@@ -1,22 +1,21 @@
--- What unpack and record come to. Assumes nothing.
+-- What unpack comes to. Assumes nothing.
 use mathlib.Core.Path.{sym}
 use Rattle.std.proofs.Common.{Result, Ok, Err}
 use mathlib.Core.Path.{◌≡◌, refl, ap, ◌∙◌}
-use Prim.Native.Nat.{ℕ, ◌*◌, ◌≤◌, ◌<◌}
+use Prim.Native.Nat.{ℕ, ◌*◌}
 use mathlib.Core.List.{List, [], ◌∷◌}
 use lib.ListN.{length}
 use lib.Dec.{ltb}
-use borrow.Author.Tests.{lt-ltb, le-ltb}
 use Rattle.refusals.specs.Refusals.{test, first_refusal}
 use Rattle.refusals.specs.Room.{room_for}
 use Rattle.refusals.specs.declared.Refusal.{Refusal}
 use Rattle.refusals.specs.declared.Refusal.TheVariants.{ResultSpace}
 use Rattle.refusals.proofs.Refusals.{and_then, refusal-append}
-use Rattle.record.specs.Sizes.{file_size, row_size, record_size}
+use Rattle.record.specs.Sizes.{row_size}
 use Rattle.netlist.specs.declared.Size.{Size}
 use Rattle.reader.specs.File.{header_fields, components_in, size_in, file_tests}
 use Rattle.reader.specs.Reading.{read_as, reading}
-use Rattle.fabric.specs.Calls.{unpacked, table_after, unpacked_table, record_start, record_length}
+use Rattle.fabric.specs.Calls.{unpacked, table_after, unpacked_table}
 
 module _ (file : List ℕ) where
   -- the last test of unpack
@@ -51,30 +50,3 @@ module _ (file : List ℕ) where
   pub table_of : (table : List ℕ) (a : Result Size Refusal) → a ≡ unpacked file (length table) → table_after a file table ≡ unpacked_table file table
   unfolding unpacked_table
   table_of table a e = ap (λ (x : Result Size Refusal). table_after x file table) e
-
-  -- ---- record
-  module _ (k : ℕ) {s : Size} (e : reading file ≡ Ok s) where
-    pub start-in : k < s.components → record_start file k ≡ file_size k
-    unfolding record_start
-    start-in h = rw (e, lt-ltb k s.components h)
-
-    pub length-in : k < s.components → record_length file k ≡ record_size
-    unfolding record_length
-    length-in h = rw (e, lt-ltb k s.components h)
-
-    pub start-past : s.components ≤ k → record_start file k ≡ 0
-    unfolding record_start
-    start-past h = rw (e, le-ltb k s.components h)
-
-    pub length-past : s.components ≤ k → record_length file k ≡ 0
-    unfolding record_length
-    length-past h = rw (e, le-ltb k s.components h)
-
-  module _ (k : ℕ) {r : Refusal} (e : reading file ≡ Err r) where
-    pub start-refused : record_start file k ≡ 0
-    unfolding record_start
-    start-refused = rw e
-
-    pub length-refused : record_length file k ≡ 0
-    unfolding record_length
-    length-refused = rw e

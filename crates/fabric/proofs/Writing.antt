@@ -1,5 +1,5 @@
 -- What pack comes to. Assumes nothing.
-use Rattle.std.proofs.Common.{Some, None}
+use Rattle.std.proofs.Common.{Option, Some, None}
 use Rattle.search.specs.First.{first}
 use Rattle.search.proofs.Laws.{first_least, none_least}
 use Rattle.refusals.specs.declared.Refusal.{Refusal}
@@ -11,7 +11,7 @@ use mathlib.Core.Bool.{Bool, true, false, not, ◌||◌}
 use mathlib.Core.List.{List, [], ◌∷◌, ◌++◌}
 use lib.ListN.{length, drop}
 use lib.Dec.{ltb, eqb}
-use borrow.Author.Tests.{ne_eqb, eq-eqb, lt-ltb, le-ltb, eqb-true, not-false, ltb-false}
+use borrow.Author.Tests.{eq-eqb, lt-ltb, le-ltb, eqb-true, not-false, ltb-false}
 use Rattle.digits.proofs.Least.{least-before}
 use Rattle.digits.proofs.Bools.{or-false}
 use Rattle.refusals.specs.Refusals.{Test, test, first_refusal, kept}
@@ -40,27 +40,28 @@ module _ (colours channels n : ℕ) (table : List ℕ) where
   unfolding first_bad_row
   good-rows h k l = not-false _ (least-before (bad_row colours channels table) n k (omega arith))
 
-  pub is_field : (k : ℕ) → first (bad_row colours channels table) n ≡ Some k → Err (BadField k) ≡ table_verdict colours channels table n
-  unfolding table_verdict first_bad_row
-  is_field k e = let w = first_least (bad_row colours channels table) n k e in rw (w.1, lt-ltb k n w.0)
+  module _ {found : Option ℕ} (is : found ≡ first (bad_row colours channels table) n) where
+    pub is_field : {k : ℕ} → found ≡ Some k → Err (BadField k) ≡ table_verdict colours channels table n
+    unfolding table_verdict first_bad_row
+    is_field {k} e = let w = first_least (bad_row colours channels table) n k (sym is ∙ e) in rw (w.1, lt-ltb k n w.0)
 
-  module _ (none : first (bad_row colours channels table) n ≡ None) where
-    all : n ≤ first_bad_row colours channels table n
-    unfolding first_bad_row
-    all = omega (arith, none_least (bad_row colours channels table) n none)
+    module _ (none : found ≡ None) where
+      all : n ≤ first_bad_row colours channels table n
+      unfolding first_bad_row
+      all = omega (arith, none_least (bad_row colours channels table) n (sym is ∙ none))
 
-    pub row-kinds : n ≤ most_components → row_size * n ≤ length table → Kinds table n
-    row-kinds few l = record { long = omega arith; few = few; kinds = λ k b. kind-le (row-parts colours channels (row table k) (good-rows all k b)) }
+      pub row_kinds : n ≤ most_components → row_size * n ≤ length table → Kinds table n
+      row_kinds few l = record { long = omega arith; few = few; kinds = λ k b. kind-le (row-parts colours channels (row table k) (good-rows all k b)) }
 
-    judged-is : wired_verdict (wired table n channels) ≡ table_verdict colours channels table n
-    unfolding table_verdict
-    judged-is = wire-tests table n channels ∙ sym (rw (le-ltb (first_bad_row colours channels table n) n all))
+      judged-is : wired_verdict (wired table n channels) ≡ table_verdict colours channels table n
+      unfolding table_verdict
+      judged-is = wire-tests table n channels ∙ sym (rw (le-ltb (first_bad_row colours channels table n) n all))
 
-    pub is-miswired : {m : Miswired} → Err m ≡ wired table n channels → Err (refusal_of m) ≡ table_verdict colours channels table n
-    is-miswired e = ap wired_verdict e ∙ judged-is
+      pub is_miswired : {m : Miswired} → Err m ≡ wired table n channels → {r : Result Unit Refusal} → r ≡ Err (refusal_of m) → r ≡ table_verdict colours channels table n
+      is_miswired e er = er ∙ ap wired_verdict e ∙ judged-is
 
-    pub is-wired : Ok tt ≡ wired table n channels → Ok tt ≡ table_verdict colours channels table n
-    is-wired e = ap wired_verdict e ∙ judged-is
+      pub is_wired : Ok tt ≡ wired table n channels → Ok tt ≡ table_verdict colours channels table n
+      is_wired e = ap wired_verdict e ∙ judged-is
 
 -- ---- the call
 abbrev pub outside : ℕ → ℕ → ℕ → Bool
@@ -91,15 +92,7 @@ inside c m n e =
     }
 
 module _ (colours channels : ℕ) (table : List ℕ) (space : ℕ) where
-  pub is-uneven : (length table % row_size ≡ 0 → ⊥) → Err WrongLength ≡ packed colours channels table space
-  unfolding packed
-  is-uneven h = rw (ne_eqb (length table % row_size) 0 h)
-
   module _ (even : length table % row_size ≡ 0) where
-    pub is-outside : outside colours channels (length table / row_size) ≡ true → Err CountRange ≡ packed colours channels table space
-    unfolding packed
-    is-outside h = rw (eq-eqb (length table % row_size) 0 even, h)
-
     pub is-judged : outside colours channels (length table / row_size) ≡ false
         → and_then (table_verdict colours channels table (length table / row_size)) (room_for space (file_size (length table / row_size))) ≡ packed colours channels table space
     unfolding packed table_verdict
@@ -111,11 +104,11 @@ module _ (colours channels : ℕ) (table : List ℕ) (space : ℕ) where
         room-last rest space (file_size n) ∙ passed
 
     module _ (h : outside colours channels (length table / row_size) ≡ false) where
-      pub judged-refused : {r : Refusal} → Err r ≡ table_verdict colours channels table (length table / row_size) → Err r ≡ packed colours channels table space
-      judged-refused e = ap (λ (v : Result Unit Refusal). and_then v (room_for space (file_size (length table / row_size)))) e ∙ is-judged h
+      pub judged_refused : {r : Refusal} → Err r ≡ table_verdict colours channels table (length table / row_size) → {v : Result Unit Refusal} → v ≡ Err r → v ≡ packed colours channels table space
+      judged_refused e ev = ev ∙ ap (λ (v : Result Unit Refusal). and_then v (room_for space (file_size (length table / row_size)))) e ∙ is-judged h
 
-      pub judged-room : Ok tt ≡ table_verdict colours channels table (length table / row_size) → room_for space (file_size (length table / row_size)) ≡ packed colours channels table space
-      judged-room e = ap (λ (v : Result Unit Refusal). and_then v (room_for space (file_size (length table / row_size)))) e ∙ is-judged h
+      pub judged_room : Ok tt ≡ table_verdict colours channels table (length table / row_size) → {v : Result Unit Refusal} → v ≡ room_for space (file_size (length table / row_size)) → v ≡ packed colours channels table space
+      judged_room e ev = ev ∙ ap (λ (v : Result Unit Refusal). and_then v (room_for space (file_size (length table / row_size)))) e ∙ is-judged h
 
   -- an accepted table
   pub record PackFacts : Type 0 where

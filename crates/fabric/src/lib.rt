@@ -1,7 +1,7 @@
 // Unpack, pack and record: the calls on the packed fabric and its open table.
 #![tactic(auto)]
 
-ghost use Rattle.std.specs.Prelude.{◌≡◌, ◌+◌, ◌*◌, ◌≤◌, ◌<◌, ◌++◌, length, take, drop};
+ghost use Rattle.std.specs.Prelude.{◌≡◌, ◌+◌, ◌*◌, ◌≤◌, ◌<◌, ◌++◌, ◌||◌, not, eqb, ltb, length, take, drop};
 ghost use Rattle.record.specs.Sizes.{file_size, row_size};
 ghost use Rattle.carried.specs.Carried.{check_place};
 ghost use Rattle.component.specs.Limits.{most_colours, most_components};
@@ -44,6 +44,7 @@ pub fn unpack(file: &[u8], table: &mut [u8]) -> Result<Size, Refusal>
 }
 
 /// The 13 bytes of component k in the file itself, or an empty part.
+#[tactic(auto, using(reader::proofs::Accepted::accepted_long), unfolding(crate::specs::Calls::record_start, crate::specs::Calls::record_length))]
 pub fn record(file: &[u8], k: usize) -> &[u8]
     ensures part { result.now ≡ take (record_length file.now k) (drop (record_start file.now k) file.now) }
     ensures place { result.ref_ptr ≡ (file.entry.ref_ptr.0, record_start file.now k + file.entry.ref_ptr.1) }
@@ -60,6 +61,7 @@ pub fn record(file: &[u8], k: usize) -> &[u8]
 }
 
 // Header bytes 0 to 2, where c is one less than the count of colours.
+#[tactic(auto, using(crate::proofs::Packing::header_front))]
 fn header_of(c: u8, components: u8, channels: u8) -> [u8; CHECK_PLACE]
     requires { c < 8 }
     ensures { result ≡ take check_place (header_bytes (c + 1) components channels 0) }
@@ -68,16 +70,17 @@ fn header_of(c: u8, components: u8, channels: u8) -> [u8; CHECK_PLACE]
 }
 
 // Lays the whole file: header bytes 0 to 2, the records, and then the check byte.
-fn put_file(c: u8, channels: u8, table: &[u8], components: u8, out: &mut [u8])
-    requires { (c < 8) × (row_size * components ≤ length table.now) × (file_size components ≤ length out.old) }
-    ensures { out.new ≡ packed_file (c + 1) channels table.now components ++ drop (file_size components) out.old }
+fn put_file(c: u8, channels: u8, table: &Table, out: &mut [u8])
+    requires { (c < 8) × (table.now.rows < 256) × (file_size table.now.rows ≤ length out.old) }
+    ensures { out.new ≡ packed_file (c + 1) channels table.now.bytes.now table.now.rows ++ drop (file_size table.now.rows) out.old }
 {
-    let start = carried::put_header(out, header_of(c, components, channels));
-    let total = carried::put_records(table, components as usize, out, start);
+    let start = carried::put_header(out, header_of(c, table.rows as u8, channels));
+    let total = carried::put_records(table, out, start);
     carried::put_check(out, total);
 }
 
 /// The refusals 6 to 8 of a table.
+#[tactic(auto, using(crate::proofs::Writing::is_field, crate::proofs::Writing::row_kinds, crate::proofs::Writing::is_miswired, crate::proofs::Writing::is_wired))]
 fn table_verdict(table: &Table, colours: u8, channels: u8) -> Result<(), Refusal>
     requires few { table.now.rows ≤ most_components }
     requires few_colours { colours ≤ most_colours }
@@ -92,7 +95,15 @@ fn table_verdict(table: &Table, colours: u8, channels: u8) -> Result<(), Refusal
     Ok(())
 }
 
+// Whether a count is one of 1 to `most`.
+fn within(count: u64, most: u64) -> bool
+    ensures { result ≡ not (eqb count 0 || ltb most count) }
+{
+    (1..=most).contains(&count)
+}
+
 /// What pack answers, with so much space.
+#[tactic(auto, using(crate::proofs::Writing::judged_refused, crate::proofs::Writing::judged_room), unfolding(crate::specs::Calls::packed))]
 pub fn pack_answer(colours: u64, channels: u64, table: &[u8], space: usize) -> Result<(), Refusal>
     ensures { result ≡ packed colours channels table.now space }
 {
@@ -100,13 +111,10 @@ pub fn pack_answer(colours: u64, channels: u64, table: &[u8], space: usize) -> R
         return Err(Refusal::WrongLength);
     }
     let rows = table.len() / ROW_SIZE;
-    if (rows == 0)
-        | (MOST_COMPONENTS < rows)
-        | (channels == 0)
-        | ((MOST_CHANNELS as u64) < channels)
-        | (colours == 0)
-        | ((MOST_COLOURS as u64) < colours)
-    {
+    let in_range = within(rows as u64, MOST_COMPONENTS as u64)
+        & within(channels, MOST_CHANNELS as u64)
+        & within(colours, MOST_COLOURS as u64);
+    if !in_range {
         return Err(Refusal::CountRange);
     }
     table_verdict(&Table { rows, bytes: table }, colours as u8, channels as u8)?;
@@ -119,7 +127,10 @@ pub fn pack(colours: u64, channels: u64, table: &[u8], file: &mut [u8]) -> Resul
     ensures file { file.new ≡ packed_into colours channels table.now file.old }
 {
     pack_answer(colours, channels, table, file.len())?;
-    let rows = table.len() / ROW_SIZE;
-    put_file((colours - 1) as u8, channels as u8, table, rows as u8, file);
+    let table = Table {
+        rows: table.len() / ROW_SIZE,
+        bytes: table,
+    };
+    put_file((colours - 1) as u8, channels as u8, &table, file);
     Ok(())
 }

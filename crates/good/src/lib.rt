@@ -5,7 +5,7 @@ ghost use Rattle.std.specs.Prelude.{◌≡◌, ℕ, Bool, not, ◌+◌, ◌*◌,
 ghost use Rattle.record.specs.Table.{row};
 ghost use Rattle.component.specs.Row.{kind};
 ghost use Rattle.component.specs.Limits.{most_colours, most_components};
-ghost use Rattle.netlist.specs.Netlist.{netlist, netlist_of};
+ghost use Rattle.netlist.specs.View.{drawn};
 ghost use Rattle.cells.specs.Good.{emitted, good_byte, all, good_cell, bad_component};
 ghost use Rattle.cells.specs.Choices.{choice_at, bad_choice};
 ghost use Rattle.cells.specs.Cells.{cell_size};
@@ -15,7 +15,7 @@ ghost use Rattle.digits.specs.Least.{least};
 
 use cells::CELL_SIZE;
 use component::{Kind, MOST_COMPONENTS, Table};
-use netlist::Size;
+use netlist::Draft;
 
 // 0, or 1 + an emitted colour.
 fn is_emitted(table: &Table, k: usize, b: u8) -> bool
@@ -77,21 +77,21 @@ fn good_cell(table: &Table, k: usize, colours: u8, cell: &[u8; CELL_SIZE]) -> bo
 }
 
 /// The lowest component whose bytes are not good, of a state with 64 bytes for each component.
+// The state's length stays a clause: the memory is lent through the C interface and may be of any length.
 #[tactic(auto, unfolding(cells::specs::Good::bad_component))]
-pub fn first_bad_cell(table: &Table, size: Size, state: &[u8]) -> Option<usize>
-    requires colours { size.colours ≤ most_colours }
-    requires rows { size.components ≤ table.now.rows }
-    requires long { cell_size * size.components ≤ length state.now }
-    ensures { result ≡ first_below (bad_component (netlist_of size table.now.bytes.now) state.now) size.components }
+pub fn first_bad_cell(draft: &Draft, state: &[u8]) -> Option<usize>
+    requires colours { draft.now.size.colours ≤ most_colours }
+    requires long { cell_size * draft.now.size.components ≤ length state.now }
+    ensures { result ≡ first_below (bad_component (drawn draft.now) state.now) draft.now.size.components }
 {
     // at most 8: a cast is plainer here than a conversion that could fail
-    let colours = size.colours as u8;
-    search::first(size.components, |k| {
-        !good_cell(table, k, colours, cells::cell(state, k))
+    let colours = draft.size.colours as u8;
+    search::first(draft.size.components, |k| {
+        !good_cell(&draft.table, k, colours, cells::cell(state, k))
     })
 }
 
-// Whether a choice is in a set.
+// Whether a choice is in a set: bit 8 - b of it. The remainders keep the shift below 16 for every byte, so that nothing jumps on b.
 #[tactic(auto, unfolding(crate::specs::Sets::in_set))]
 fn in_set(set: u16, b: u8) -> bool
     ensures { result ≡ in_set set b }
@@ -142,14 +142,13 @@ fn allowed_steps(sets: &[u16; MOST_COMPONENTS], components: usize, choices: &[u8
 }
 
 /// The lowest offset of a choice that is not allowed, of choices that are one byte for each component, step after step.
-pub fn first_bad_choice(table: &Table, size: Size, choices: &[u8]) -> Option<usize>
-    requires some { 0 < size.components }
-    requires few { size.components ≤ most_components }
-    requires rows { size.components ≤ table.now.rows }
-    ensures { result ≡ first_below (bad_choice (netlist_of size table.now.bytes.now) choices.now) (length choices.now) }
+pub fn first_bad_choice(draft: &Draft, choices: &[u8]) -> Option<usize>
+    requires some { 0 < draft.now.size.components }
+    requires few { draft.now.size.components ≤ most_components }
+    ensures { result ≡ first_below (bad_choice (drawn draft.now) choices.now) (length choices.now) }
 {
-    let n = size.components;
-    let sets = choice_sets(table, n);
+    let n = draft.size.components;
+    let sets = choice_sets(&draft.table, n);
     // after the steps at the front, one choice after the other
     let from = n * allowed_steps(&sets, n, choices);
     let o = search::first(choices.len() - from, |i| {

@@ -1,6 +1,6 @@
 -- What a merge picks. Assumes nothing.
 use mathlib.Core.Path.{◌≡◌, refl}
-use Prim.Native.Nat.{ℕ, zero, suc, ◌≤◌}
+use Prim.Native.Nat.{ℕ, zero, suc, ◌≤◌, ◌<◌}
 use native.Mathlib.Omega.{arith}
 use Rattle.held.specs.Picks.{pick_number, pick_of, chosen_b, picks_b}
 use Rattle.held.proofs.Bounds.{either-le, offered-le}
@@ -16,6 +16,27 @@ unfolding picks_b
 picks_read zero choice a b = refl
 picks_read (suc zero) choice a b = refl
 picks_read (suc (suc h)) choice a b = refl
+
+-- where one input is offered, that one
+pub only-b : (h choice b : ℕ) → picks_b h choice 0 b ≡ 1
+unfolding picks_b
+only-b zero choice b = refl
+only-b (suc zero) choice b = refl
+only-b (suc (suc h)) choice zero = refl
+only-b (suc (suc h)) choice (suc b) = refl
+
+pub only-a : (h choice a : ℕ) → picks_b h choice (suc a) 0 ≡ 0
+unfolding picks_b
+only-a zero choice a = refl
+only-a (suc zero) choice a = refl
+only-a (suc (suc h)) choice a = refl
+
+-- B held and offered
+pub held-b : (h choice a b : ℕ) → 1 < h → picks_b h choice a (suc b) ≡ 1
+unfolding picks_b
+held-b zero choice a b l = absurd (omega arith)
+held-b (suc zero) choice a b l = absurd (omega arith)
+held-b (suc (suc h)) choice a b l = refl
 
 -- it is 0 or 1
 pub picks-le : (h choice a b : ℕ) → picks_b h choice a b ≤ 1

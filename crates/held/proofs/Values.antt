@@ -1,13 +1,14 @@
 -- Laws of the values of signals, and the same of offers and flags as numbers. Assumes nothing.
 use mathlib.Core.Path.{◌≡◌, refl, ap, ◌∙◌}
 use mathlib.Core.Bool.{Bool, true, false, not, ◌&&◌, ◌||◌}
-use Prim.Native.Nat.{ℕ, zero, suc}
+use Prim.Native.Nat.{ℕ, zero, suc, ◌≤◌}
+use native.Mathlib.Omega.{arith}
 use lib.Dec.{eqb, eqb-suc-zero}
 use Rattle.std.specs.Prelude.{if◌then◌else◌}
 use Rattle.std.specs.Int.{from_bool}
 use Rattle.held.specs.declared.Offer.{Offer}
 use Rattle.held.specs.declared.Offer.TheVariants.{Nothing, Colour}
-use Rattle.held.specs.Values.{offer_number, is_colour, first_colour, bit, unless, offered, when, or_else}
+use Rattle.held.specs.Values.{offer_number, offer_of, is_colour, first_colour, bit, unless, offered, when, or_else}
 
 pub when-open : (n v : ℕ) → (n ≡ 0 → ⊥) → v ≡ when n v
 when-open zero v h = absurd (h refl)
@@ -61,6 +62,24 @@ held_flag true Nothing = refl
 held_flag true (Colour d) = refl
 held_flag false Nothing = refl
 held_flag false (Colour d) = refl
+
+-- back from their numbers
+pub offer_of_number : (o : Offer) → offer_of (offer_number o) ≡ o
+offer_of_number Nothing = refl
+offer_of_number (Colour d) = refl
+
+pub number_of_offer : (n : ℕ) → offer_number (offer_of n) ≡ n
+number_of_offer zero = refl
+number_of_offer (suc n) = refl
+
+pub flag_of_bit : (b : Bool) → not (eqb (bit b) 0) ≡ b
+flag_of_bit true = refl
+flag_of_bit false = refl
+
+pub bit_of_flag : (n : ℕ) → n ≤ 1 → bit (not (eqb n 0)) ≡ n
+bit_of_flag zero h = refl
+bit_of_flag (suc zero) h = refl
+bit_of_flag (suc (suc n)) h = absurd (omega arith)
 
 -- flags and offers of the code as numbers
 pub ruleset numbers = (colour_flag, first_number, passed_number, both_flags, when_not)

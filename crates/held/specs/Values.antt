@@ -4,10 +4,14 @@ use Rattle.std.specs.Prelude.{Bool, true, false, ℕ, zero, suc}
 use Rattle.held.specs.declared.Offer.{Offer}
 use Rattle.held.specs.declared.Offer.TheVariants.{Nothing, Colour}
 
--- the number of an offer, and of a flag
+-- the number of an offer, the offer of a number, and the number of a flag
 abbrev pub offer_number : Offer → ℕ
 offer_number Nothing = 0
 offer_number (Colour d) = suc d
+
+abbrev pub offer_of : ℕ → Offer
+offer_of zero = Nothing
+offer_of (suc d) = Colour d
 
 -- whether it is a colour, and the first of two that is
 abbrev pub is_colour : Offer → Bool

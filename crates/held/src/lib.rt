@@ -7,6 +7,7 @@ ghost use Rattle.held.specs.Values.{offer_number, bit, when, unless, is_colour, 
 ghost use Rattle.held.specs.Picks.{pick_number, pick_of, picks_b};
 
 /// An offer: nothing, or a colour.
+// An enum of its own, as the document names it; a byte becomes an `Option<u8>` by another rule.
 #[derive(Clone, Copy, Debug, PartialEq, Eq)]
 pub enum Offer {
     Nothing,
@@ -49,8 +50,8 @@ impl From<Offer> for u8 {
 
     fn from(offer: Offer) -> u8 {
         match offer {
-            Offer::Colour(colour) if colour < 255 => colour + 1,
-            _ => 0,
+            Offer::Colour(colour) => colour.wrapping_add(1),
+            Offer::Nothing => 0,
         }
     }
 }
@@ -121,7 +122,7 @@ pub enum Pick {
     B,
 }
 
-/// The pick that a byte of the state says: 0 for none, 1 for A, else B.
+/// The pick that a byte of the state says: 0 for none, 1 for A, else B. It cannot fail.
 impl From<u8> for Pick {
     ghost from_gives = { λ byte pick. pick ≡ pick_of byte };
 
@@ -160,12 +161,10 @@ impl HeldMerge {
     pub fn picks_b(self, choice: u8, a: Offer, b: Offer) -> bool
         ensures { bit result ≡ picks_b (pick_number self.held) choice (offer_number a) (offer_number b) }
     {
-        match (a, b, self.held) {
-            (Offer::Nothing, _, _) => true,
-            (_, Offer::Nothing, _) => false,
-            (_, _, Pick::Free) => choice != 0,
-            (_, _, Pick::A) => false,
-            (_, _, Pick::B) => true,
+        match (a, b) {
+            (Offer::Nothing, _) => true,
+            (_, Offer::Nothing) => false,
+            _ => (self.held == Pick::B) | (self.held == Pick::Free) & (choice != 0),
         }
     }
 

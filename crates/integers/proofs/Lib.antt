@@ -4,5 +4,4 @@ pub mod Total
 pub mod Near
 pub mod Lines
 pub mod Tables
-pub mod Twos
 pub mod Sign

@@ -65,26 +65,9 @@ module _ (a b : ℤ) (m n : ℕ) (ha : nat_abs a ≤ m) (hb : nat_abs b ≤ n) (
   sum_fits : SFits w64 (a +ℤ b)
   sum_fits = near_fits (a +ℤ b) (m + n) (omega (arith, nat_abs-add a b)) room
 
-  -- the need of a machine sum, and what the sum then is
-  pub add-fits : SFits w64 (to_z w64 (of_z w64 a) +ℤ to_z w64 (of_z w64 b))
-  add-fits = subst (SFits w64) (sym back) sum_fits
-
+  -- what the machine's sum is
   pub added : to_z w64 (of_z w64 (to_z w64 (of_z w64 a) +ℤ to_z w64 (of_z w64 b))) ≡ a +ℤ b
   added = ap (λ (z : ℤ). to_z w64 (of_z w64 z)) back ∙ to_z-of_z w64 (a +ℤ b) sum_fits
-
--- an unsigned number less a literal: the need, and the machine's value
-module _ (n k : ℕ) (hn : n < 2 ^ 62) (hk : k < 2 ^ 62) where
-  sub_back : to_z w64 n -ℤ pos k ≡ pos n -ℤ pos k
-  sub_back = ap (λ (z : ℤ). z -ℤ pos k) (to_z_pos w64 n (omega arith))
-
-  sub_in : SFits w64 (pos n -ℤ pos k)
-  sub_in = near_fits (pos n -ℤ pos k) (n + k) (omega (arith, nat_abs-add (pos n) (neg_ℤ (pos k)), nat_abs-neg (pos k))) (omega arith)
-
-  pub sub-fits : SFits w64 (to_z w64 n -ℤ pos k)
-  sub-fits = subst (SFits w64) (sym sub_back) sub_in
-
-  pub subbed : to_z w64 (of_z w64 (to_z w64 n -ℤ pos k)) ≡ pos n -ℤ pos k
-  subbed = ap (λ (z : ℤ). to_z w64 (of_z w64 z)) sub_back ∙ to_z-of_z w64 (pos n -ℤ pos k) sub_in
 
 -- the machine's negation, 0 - m
 module _ (m : ℤ) (h : nat_abs m ≤ 2 ^ 34) where
@@ -93,9 +76,6 @@ module _ (m : ℤ) (h : nat_abs m ≤ 2 ^ 34) where
 
   neg-in : SFits w64 (neg_ℤ m)
   neg-in = near_fits (neg_ℤ m) (2 ^ 34) (omega (arith, nat_abs-neg m)) (omega arith)
-
-  pub neg-fits : SFits w64 (pos 0 -ℤ to_z w64 (of_z w64 m))
-  neg-fits = subst (SFits w64) (sym neg-back) neg-in
 
   pub negated : to_z w64 (of_z w64 (pos 0 -ℤ to_z w64 (of_z w64 m))) ≡ neg_ℤ m
   negated = ap (λ (z : ℤ). to_z w64 (of_z w64 z)) neg-back ∙ to_z-of_z w64 (neg_ℤ m) neg-in
@@ -110,9 +90,6 @@ module _ (a b : ℤ) (m n : ℕ) (ha : nat_abs a ≤ m) (hb : nat_abs b ≤ n) (
 
   held_in : SFits w64 (a +ℤ b)
   held_in = near_fits (a +ℤ b) (m + n) (omega (arith, nat_abs-add a b)) room
-
-  pub held_fits : SFits w64 (a +ℤ to_z w64 (of_z w64 b))
-  held_fits = subst (SFits w64) (sym held_back) held_in
 
   pub held : to_z w64 (of_z w64 (a +ℤ to_z w64 (of_z w64 b))) ≡ a +ℤ b
   held = ap (λ (z : ℤ). to_z w64 (of_z w64 z)) held_back ∙ to_z-of_z w64 (a +ℤ b) held_in

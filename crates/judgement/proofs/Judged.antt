@@ -6,7 +6,8 @@ use mathlib.Core.List.{List, [], ◌∷◌}
 use Prim.Native.Nat.{ℕ, ◌+◌, ◌*◌, ◌/◌, ◌%◌, ◌^◌, ◌≤◌, ◌<◌}
 use native.Mathlib.Omega.{arith}
 use lib.Dec.{ltb, eqb}
-use lib.ListN.{length, get_or}
+use lib.ListN.{length, get_or, take}
+use Rattle.std.proofs.lemmas.List.{get_or-take, length-take-le}
 use lib.IntN.{ℤ, pos, ◌*ℤ◌, zero-*ℤ, *ℤ-zero}
 use borrow.Author.Tests.{ltb-false, lt-ltb, le-ltb, eq-eqb, ne_eqb}
 use Rattle.digits.specs.Least.{least}
@@ -20,7 +21,7 @@ use Rattle.refusals.specs.Refusals.{test, first_refusal}
 use Rattle.refusals.specs.Room.{room_for}
 use Rattle.refusals.specs.declared.Refusal.{Refusal}
 use Rattle.refusals.specs.declared.Refusal.TheVariants.{ProposalLength, NoEquation, FlowLeft, NoWeight}
-use Rattle.refusals.proofs.Room.{room-last, last-accepted, room-given}
+use Rattle.refusals.proofs.Room.{room-last, room-given}
 use Rattle.refusals.proofs.Refusals.{and_then}
 use Rattle.record.specs.Table.{row}
 use Rattle.component.specs.Kind.{is_queue}
@@ -165,11 +166,6 @@ within-given f p space h = go (judged f p) refl
     go (Ok tt) e = sym (within-room-for f p space (sym e) (sym (room-given space (8 * f.components) h)))
     go (Err r) e = sym (within-refused f p space (sym e))
 
--- accepted with room: there is room
-pub within-room : (f : Netlist) (p : List ℕ) (space : ℕ) → judged_within f p space ≡ Ok tt → 8 * f.components ≤ space
-unfolding judged_within
-within-room f p space e = (last-accepted (judge_tests f p) space (8 * f.components) e).1
-
 -- ---- what is written
 module _ {E : Type 0} (filled : ℕ → (ℕ → ℤ) → List E → List E) (f : Netlist) (p : List ℕ) (old : List E) {v : Result Unit Refusal} where
   pub written-refused : {r : Refusal} → Err r ≡ v → old ≡ written_by filled v f p old
@@ -179,6 +175,15 @@ module _ {E : Type 0} (filled : ℕ → (ℕ → ℤ) → List E → List E) (f 
   pub written-given : Ok tt ≡ v → filled (8 * f.components) (entry f p) old ≡ written_by filled v f p old
   unfolding written_by
   written-given e = ap (λ (x : Result Unit Refusal). written_by filled x f p old) e
+
+-- the first entries of a table of weights are the proposal's
+pub first-entries : {E : Type 0} (filled : ℕ → (ℕ → ℤ) → List E → List E) → ((g h : ℕ → ℤ) (s : List E) (n : ℕ) → ((u : ℕ) → u < n → g u ≡ h u) → filled n g s ≡ filled n h s)
+    → (f : Netlist) (p : List ℕ) {w : List ℤ} → 8 * f.components ≤ most_entries → Weighed f p w → (old : List E)
+    → filled (length (take (8 * f.components) w)) (λ u. get_or (take (8 * f.components) w) u (pos 0)) old ≡ filled (8 * f.components) (entry f p) old
+first-entries {E} filled same f p {w} few a old =
+    let n = 8 * f.components in
+    ap (λ (k : ℕ). filled k (λ u. get_or (take n w) u (pos 0)) old) (length-take-le n w (omega (arith, a.near.long)))
+    ∙ same (λ u. get_or (take n w) u (pos 0)) (entry f p) old n (λ u l. get_or-take n w u (pos 0) l ∙ a.at u l)
 
 -- as entries, and as bytes
 pub table-written : (v : Result Unit Refusal) (f : Netlist) (p : List ℕ) (old : List ℤ) → written_by entries_filled v f p old ≡ table_by v f p old

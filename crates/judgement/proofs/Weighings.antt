@@ -1,5 +1,5 @@
 -- What a table of weights says of an entry that is asked for. Assumes nothing.
-use mathlib.Core.Path.{◌≡◌, refl, ap, ap₂, ◌∙◌}
+use mathlib.Core.Path.{◌≡◌, refl, sym, ap, ap₂, ◌∙◌}
 use mathlib.Core.Bool.{Bool, true, false, cond}
 use mathlib.Core.List.{List}
 use Prim.Native.Nat.{ℕ, ◌+◌, ◌*◌, ◌≤◌}
@@ -7,7 +7,7 @@ use native.Mathlib.Omega.{arith}
 use lib.Dec.{ltb, eqb}
 use lib.ListN.{get_or}
 use lib.IntN.{ℤ, pos}
-use borrow.Author.Tests.{ltb-true}
+use borrow.Author.Tests.{ltb-true, ne_eqb}
 use Rattle.integers.specs.Sign.{above_zero, below_zero}
 use Rattle.integers.proofs.Total.{total-cong}
 use Rattle.component.specs.Row.{capacity}
@@ -36,10 +36,12 @@ weighing-is f p few {w} a u =
     go true e = ap above_zero (a.at u (ltb-true u (8 * f.components) e))
     go false e = refl
 
--- what the table says, from its parts
-pub weighing-by : {k j : ℤ} (f : Netlist) (w : List ℤ) (u : ℕ) {x o : ℕ} → j ≡ k → x ≡ weight_in f w u → o ≡ cond (eqb x 0) 0 (owed_of f (λ q d. get_or w (8 * q + d) (pos 0)))
-    → ◌≡◌ {A = Weighing} (record { constant = j; weight = x; owed = o }) (weighing_in k f w u)
-unfolding weighing_in
-weighing-by {k} {j} f w u {x} {o} ej ex eo =
-    ap₂ (λ (i : ℤ) (n : ℕ). record { constant = i; weight = x; owed = n }) ej eo
-    ∙ ap (λ (n : ℕ). record { constant = k; weight = n; owed = cond (eqb n 0) 0 (owed_of f (λ q d. get_or w (8 * q + d) (pos 0))) }) ex
+-- what the table says: with no weight above 0, and with one
+module _ {k j : ℤ} (f : Netlist) (w : List ℤ) (u : ℕ) {x : ℕ} (ej : j ≡ k) (ex : x ≡ weight_in f w u) where
+  pub weighing-none : x ≡ 0 → ◌≡◌ {A = Weighing} (record { constant = j; weight = x; owed = 0 }) (weighing_in k f w u)
+  unfolding weighing_in
+  weighing-none e = simp (ej, sym ex ∙ e, e)
+
+  pub weighing-some : (x ≡ 0 → ⊥) → {o : ℕ} → o ≡ owed_of f (λ q d. get_or w (8 * q + d) (pos 0)) → ◌≡◌ {A = Weighing} (record { constant = j; weight = x; owed = o }) (weighing_in k f w u)
+  unfolding weighing_in
+  weighing-some ne eo = simp (ej, eo, sym ex, ne_eqb x 0 ne)

@@ -121,6 +121,7 @@ impl Entry for u8 {
     const ZERO: u8 = 0;
 
     fn write(out: &mut [u8], u: usize, v: i64) {
+        // 8 bytes an entry: the layout of lent memory
         out[8 * u..8 * u + 8].copy_from_slice(&v.to_le_bytes());
     }
 

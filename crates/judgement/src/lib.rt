@@ -3,41 +3,40 @@
 
 ghost use Rattle.std.specs.Prelude.{◌≡◌, ◌+◌, ◌*◌, ◌/◌, ◌%◌, ◌≤◌, ◌<◌, ◌^◌, IfOk, not, ◌||◌, eqb, ltb, length, get_or, pos, nat_abs};
 ghost use Rattle.integers.specs.Sum.{sum_to};
-ghost use Rattle.integers.specs.Tables.{Near, Summed};
+ghost use Rattle.integers.specs.Tables.{Summed};
 ghost use Rattle.component.specs.Limits.{most_entries};
 ghost use Rattle.netlist.specs.View.{facts_of};
 ghost use Rattle.flows.specs.Flows.{constant};
 ghost use Rattle.flows.specs.Terms.{most_terms};
 ghost use Rattle.flows.specs.Verdict.{giving, judged, judged_within};
-ghost use Rattle.judgement.specs.Judged.{share_of, sums_verdict, Weighed, weighing_in, weighing_of, written_by};
+ghost use Rattle.judgement.specs.Judged.{share_of, sums_verdict, Weighed, weight_in, weighing_in, weighing_of, written_by};
 
 pub mod entry;
 
 use component::{Kind, MOST_ENTRIES, MOST_FLOWS};
 pub use entry::Entry;
+use headroom::Weights;
 use netlist::Netlist;
 use refusals::{Refusal, room_for};
 use spread::ColouredNetlist;
 use sums::MOST_TERMS;
 
 // One component's share of the constant.
-fn share(weights: &[i64; MOST_ENTRIES], netlist: &Netlist, q: usize) -> i64
-    requires component { q < netlist.now.size.components }
-    requires weights_near { Near most_entries (2 ^ 40) weights.now }
-    ensures value { result ≡ share_of netlist.now.table.bytes.now weights.now q }
+fn share(weights: &Weights, netlist: &Netlist, q: usize) -> i64
+    requires { q < netlist.now.size.components }
+    ensures value { result ≡ share_of netlist.now.table.bytes.now weights.now.entries.now q }
     ensures near { nat_abs result ≤ 2 ^ 48 }
 {
     let table = netlist.table;
-    if let Kind::Queue = table.kind(q) {
-        return weights[8 * q + table.fill_colour(q) as usize] * table.filling(q) as i64;
+    match table.kind(q) {
+        Kind::Queue => weights.of(q, table.fill_colour(q) as usize) * table.filling(q) as i64,
+        _ => 0,
     }
-    0
 }
 
 // The constant K.
-fn constant_of(weights: &[i64; MOST_ENTRIES], netlist: &Netlist) -> i64
-    requires weights_near { Near most_entries (2 ^ 40) weights.now }
-    ensures { result ≡ sum_to netlist.now.size.components (share_of netlist.now.table.bytes.now weights.now) }
+fn constant_of(weights: &Weights, netlist: &Netlist) -> i64
+    ensures { result ≡ sum_to netlist.now.size.components (share_of netlist.now.table.bytes.now weights.now.entries.now) }
 {
     let mut constant = 0;
     for q in 0..netlist.size.components {
@@ -49,16 +48,16 @@ fn constant_of(weights: &[i64; MOST_ENTRIES], netlist: &Netlist) -> i64
 // 13 and 14 from the sums of all terms, or the constant.
 fn judge_sums(
     sums: &[i64; MOST_FLOWS],
-    weights: &[i64; MOST_ENTRIES],
+    weights: &Weights,
     coloured: &ColouredNetlist,
 ) -> Result<i64, Refusal>
-    requires weights_near { Near most_entries (2 ^ 40) weights.now }
-    ensures { result ≡ giving (sums_verdict (facts_of coloured.now.netlist) sums.now weights.now) (sum_to coloured.now.netlist.size.components (share_of coloured.now.netlist.table.bytes.now weights.now)) }
+    ensures { result ≡ giving (sums_verdict (facts_of coloured.now.netlist) sums.now weights.now.entries.now) (sum_to coloured.now.netlist.size.components (share_of coloured.now.netlist.table.bytes.now weights.now.entries.now)) }
 {
     if let Some(flow) = leftover::flow_left(sums, coloured) {
         return Err(Refusal::FlowLeft(flow));
     }
-    if leftover::lowest(weights, 8 * coloured.netlist.size.components).is_none() {
+    let entries = weights.entries;
+    if leftover::lowest(entries, 8 * coloured.netlist.size.components).is_none() {
         return Err(Refusal::NoWeight);
     }
     Ok(constant_of(weights, &coloured.netlist))
@@ -86,7 +85,7 @@ fn weigh(
     }
     let mut flow_sums = [0i64; MOST_FLOWS];
     sums::add_terms(&mut flow_sums, weights, &coloured.netlist, proposal)?;
-    judge_sums(&flow_sums, weights, coloured)
+    judge_sums(&flow_sums, &Weights { entries: weights }, coloured)
 }
 
 /// Writes entries at the front of lent memory.
@@ -94,8 +93,8 @@ pub fn write_entries<E: Entry>(out: &mut [E], entries: &[i64])
     requires { E.WIDTH * length entries.now ≤ length out.old }
     ensures { out.new ≡ E.filled (length entries.now) (λ u. get_or entries.now u (pos 0)) out.old }
 {
-    for u in 0..entries.len() {
-        E::write(out, u, entries[u]);
+    for (u, &v) in entries.iter().enumerate() {
+        E::write(out, u, v);
     }
 }
 
@@ -105,16 +104,6 @@ pub fn clear<E: Entry>(out: &mut [E], n: usize)
     ensures { out.new ≡ E.filled n (λ u. pos 0) out.old }
 {
     out[..E::WIDTH * n].fill(E::ZERO);
-}
-
-// The first n weights into lent memory.
-fn write_weights<E: Entry>(out: &mut [E], weights: &[i64; MOST_ENTRIES], n: usize)
-    requires { (n ≤ most_entries) × (E.WIDTH * n ≤ length out.old) }
-    ensures { out.new ≡ E.filled n (λ u. get_or weights.now u (pos 0)) out.old }
-{
-    for u in 0..n {
-        E::write(out, u, weights[u]);
-    }
 }
 
 /// The constant K of a proposal, and its weights into lent memory; refused with 11 to 14, and with 23 if the memory is too short for them. The weights stand in
@@ -132,7 +121,7 @@ pub fn judge<E: Entry>(
     let constant = weigh(coloured, proposal, &mut weights)?;
     let entries = 8 * coloured.netlist.size.components;
     room_for(out.len() / E::WIDTH, entries)?;
-    write_weights(out, &weights, entries);
+    write_entries(out, &weights[..entries]);
     Ok(constant)
 }
 
@@ -153,6 +142,7 @@ pub fn judge_answer(
 
 /// What an accepted proposal says of one entry: its constant, how far the entry's weight is above 0, and where it is above 0 what the weights below 0 come to with
 /// every queue full.
+// The weight is a number, of which 0 is one, and no Option: ceiling refuses 0 with 32.
 #[derive(Clone, Copy, Debug, PartialEq, Eq)]
 pub struct Weighing {
     pub constant: i64,
@@ -160,23 +150,25 @@ pub struct Weighing {
     pub owed: usize,
 }
 
-fn asked(constant: i64, weights: &[i64; MOST_ENTRIES], netlist: &Netlist, u: usize) -> Weighing
-    requires weights_near { Near most_entries (2 ^ 40) weights.now }
-    ensures value { result ≡ weighing_in constant (facts_of netlist.now) weights.now u }
-    ensures near { result.owed ≤ 2 ^ 58 }
+// How far the weight of entry u is above 0; 0 where there is no such entry.
+fn weight_of(weights: &Weights, netlist: &Netlist, u: usize) -> usize
+    ensures { result ≡ weight_in (facts_of netlist.now) weights.now.entries.now u }
 {
     if 8 * netlist.size.components <= u {
-        return Weighing {
-            constant,
-            weight: 0,
-            owed: 0,
-        };
+        return 0;
     }
-    let weight = headroom::above_zero(weights[u]);
+    headroom::above_zero(weights.entries[u])
+}
+
+fn asked(constant: i64, weights: &Weights, netlist: &Netlist, u: usize) -> Weighing
+    ensures value { result ≡ weighing_in constant (facts_of netlist.now) weights.now.entries.now u }
+    ensures near { result.owed ≤ 2 ^ 58 }
+{
+    let weight = weight_of(weights, netlist, u);
     if weight == 0 {
         return Weighing {
             constant,
-            weight: 0,
+            weight,
             owed: 0,
         };
     }
@@ -199,5 +191,6 @@ pub fn judge_entry(
 {
     let mut weights = [0i64; MOST_ENTRIES];
     let constant = weigh(coloured, proposal, &mut weights)?;
+    let weights = Weights { entries: &weights };
     Ok(asked(constant, &weights, &coloured.netlist, u))
 }

@@ -18,6 +18,7 @@ fn not_zero(entry: i64) -> bool
 }
 
 /// The lowest of the first `n` entries that is not 0.
+// n bounds the search and not the memory: a table holds the flows of the largest fabric.
 pub fn lowest(entries: &[i64], n: usize) -> Option<usize>
     requires { n ≤ length entries.now }
     ensures { result ≡ first (not_zero entries.now) n }
@@ -31,12 +32,11 @@ fn lowest_in(sums: &[i64; MOST_FLOWS], sets: &[u8], from: usize, n: usize) -> Op
     requires zeros { Zeros sums.now from }
     ensures { result ≡ first (left_in sums.now sets.now) n }
 {
-    for v in from..n {
-        if not_zero(sums[v]) && component::has_colour(sets[v / 8] as usize, v % 8) {
-            return Some(v);
-        }
-    }
-    None
+    let i = search::first(n - from, |i| {
+        let v = from + i;
+        not_zero(sums[v]) && component::has_colour(sets[v / 8] as usize, v % 8)
+    })?;
+    Some(from + i)
 }
 
 /// The lowest flow that is left inside the sets, as 8 times its channel plus its colour. The sets are looked at only where some flow is left, and worked out here

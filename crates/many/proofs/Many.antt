@@ -20,10 +20,6 @@ use Rattle.judgement.specs.Memory.{bytes_of}
 use Rattle.results.proofs.Written.{each-bytes}
 
 -- ---- the tests of the blocks
-refused-by : (b : Bool) (n : ℕ) {r : Refusal} (rest : Result Unit Refusal) → ◌≡◌ {A = Result ℕ Refusal} (Err r) (cond b (Err BadBlocks) (Ok n)) → Err r ≡ cond b (Err BadBlocks) rest
-refused-by true n rest e = cc
-refused-by false n rest e = cc
-
 counted-by : (b : Bool) {n m : ℕ} → ◌≡◌ {A = Result ℕ Refusal} (Ok n) (cond b (Err BadBlocks) (Ok m)) → (b ≡ false) × (n ≡ m)
 counted-by true e = (cc, cc)
 counted-by false e = (refl, cc)
@@ -34,11 +30,7 @@ accepted-by false true e = (refl, cc)
 accepted-by false false e = (refl, refl)
 
 module _ (f : Netlist) (p : List ℕ) (space : ℕ) where
-  -- 33
-  pub blocks-refused : {r : Refusal} → Err r ≡ blocks_found p → Err r ≡ first_refusal (many_tests f p space)
-  blocks-refused e = refused-by (bad_blocks p) (blocks p) (room_for space (blocks p * result_size f)) e
-
-  -- or so many blocks, and 23
+  -- so many blocks, and 23
   pub blocks-counted : {n size : ℕ} → Ok n ≡ blocks_found p → size ≡ result_size f → room_for space (n * size) ≡ first_refusal (many_tests f p space)
   blocks-counted {n} {size} e q =
       let z = counted-by (bad_blocks p) e in

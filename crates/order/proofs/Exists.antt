@@ -3,7 +3,7 @@ use mathlib.Core.Path.{◌≡◌, refl, sym, ap, subst, ◌∙◌}
 use mathlib.Core.Logic.{◌⊎◌, inl, inr}
 use mathlib.Core.List.{List, [], ◌∷◌}
 use mathlib.Core.Bool.{true, false, true≢false}
-use Prim.Native.Nat.{ℕ, zero, suc, ◌+◌, ◌*◌, ◌/◌, ◌%◌, ◌<◌, ◌≤◌}
+use Prim.Native.Nat.{ℕ, zero, suc, ◌+◌, ◌<◌, ◌≤◌}
 use native.Mathlib.Decide.{dec_lt}
 use native.Mathlib.Nat.{eq-or-lt_of_le, le_of_suc-le-suc}
 use native.Mathlib.Omega.{arith}
@@ -14,7 +14,6 @@ use Rattle.order.specs.Zeros.{zeros}
 use Rattle.order.proofs.Graph.{any-has, walks-zero, walks-suc}
 use Rattle.order.proofs.Zeros.{zeros-set, zeros-replicate}
 use Rattle.order.proofs.Places.{good_none, put-good, sorted}
-use Rattle.order.proofs.Same.{circle-same, sorted-same}
 
 -- one of the numbers below m is of one sort, or all are of the other
 scan : (Q R : ℕ → Type 0) (m : ℕ) → ((j : ℕ) → j < m → Q j ⊎ R j) → ((j : ℕ) × (j < m) × Q j) ⊎ ((j : ℕ) → j < m → R j)
@@ -30,14 +29,14 @@ scan Q R (suc m) f = go (f m (omega arith)) (scan Q R m (λ j h. f j (omega arit
         here j (inl e) = subst R (sym e) r
         here j (inr h) = all j h
 
-module _ (T : List ℕ) (n : ℕ) where
+module _ (D : ℕ → ℕ → ℕ) (n : ℕ) where
   -- all entries of s are in the order
   abbrev Ready : List ℕ → ℕ → Type 0
-  Ready P s = (j : ℕ) → j < 4 → dep T s j < n → 0 < get_or P (dep T s j) 0
+  Ready P s = (j : ℕ) → j < 4 → D s j < n → 0 < get_or P (D s j) 0
 
   -- one is not
   abbrev Waits : List ℕ → ℕ → Type 0
-  Waits P s = (j : ℕ) × (j < 4) × ((dep T s j < n) × (get_or P (dep T s j) 0 ≡ 0))
+  Waits P s = (j : ℕ) × (j < 4) × ((D s j < n) × (get_or P (D s j) 0 ≡ 0))
 
   entry : (P : List ℕ) (d : ℕ) → Dec (d < n) → Dec (0 < get_or P d 0) → ((d < n) × (get_or P d 0 ≡ 0)) ⊎ (d < n → 0 < get_or P d 0)
   entry P d (no h) q = inr (λ l. absurd (h l))
@@ -45,7 +44,7 @@ module _ (T : List ℕ) (n : ℕ) where
   entry P d (yes h) (no q) = inl (h, omega (arith, q))
 
   waits : (P : List ℕ) (s : ℕ) → Waits P s ⊎ Ready P s
-  waits P s = scan (λ j. (dep T s j < n) × (get_or P (dep T s j) 0 ≡ 0)) (λ j. dep T s j < n → 0 < get_or P (dep T s j) 0) 4 (λ j h. entry P (dep T s j) (dec_lt _ _) (dec_lt _ _))
+  waits P s = scan (λ j. (D s j < n) × (get_or P (D s j) 0 ≡ 0)) (λ j. D s j < n → 0 < get_or P (D s j) 0) 4 (λ j h. entry P (D s j) (dec_lt _ _) (dec_lt _ _))
 
   signal : (P : List ℕ) (s : ℕ) → Dec (0 < get_or P s 0) → Waits P s ⊎ Ready P s → ((get_or P s 0 ≡ 0) × Ready P s) ⊎ (get_or P s 0 ≡ 0 → Waits P s)
   signal P s (yes q) w = inr (λ e. absurd (omega arith))
@@ -57,13 +56,13 @@ module _ (T : List ℕ) (n : ℕ) where
   next P = scan (λ s. (get_or P s 0 ≡ 0) × Ready P s) (λ s. get_or P s 0 ≡ 0 → Waits P s) n (λ s h. signal P s (dec_lt _ _) (waits P s))
 
   -- then walks of every length start at it
-  walks-on : (P : List ℕ) → ((s : ℕ) → s < n → get_or P s 0 ≡ 0 → Waits P s) → (k s : ℕ) → s < n → get_or P s 0 ≡ 0 → walks (dep T) n k s ≡ true
-  walks-on P w zero s h e = walks-zero (dep T) n s h
+  walks-on : (P : List ℕ) → ((s : ℕ) → s < n → get_or P s 0 ≡ 0 → Waits P s) → (k s : ℕ) → s < n → get_or P s 0 ≡ 0 → walks D n k s ≡ true
+  walks-on P w zero s h e = walks-zero D n s h
   walks-on P w (suc k) s h e =
       let r = w s h e in
-      walks-suc (dep T) n k s r.0 h r.1 (walks-on P w k (dep T s r.0) r.2.0 r.2.1)
+      walks-suc D n k s r.0 h r.1 (walks-on P w k (D s r.0) r.2.0 r.2.1)
 
-  module _ (none : has_circle (dep T) n ≡ false) where
+  module _ (none : has_circle D n ≡ false) where
     -- so all are in
     all_in : (P : List ℕ) → ((s : ℕ) → s < n → get_or P s 0 ≡ 0 → Waits P s) → (s : ℕ) → s < n → 0 < get_or P s 0
     unfolding has_circle
@@ -71,13 +70,13 @@ module _ (T : List ℕ) (n : ℕ) where
       where
         go : Dec (0 < get_or P s 0) → 0 < get_or P s 0
         go (yes q) = q
-        go (no q) = absurd (true≢false (sym (any-has n (walks (dep T) n n) s h (walks-on P w n s h (omega (arith, q)))) ∙ none))
+        go (no q) = absurd (true≢false (sym (any-has n (walks D n n) s h (walks-on P w n s h (omega (arith, q)))) ∙ none))
 
-    done : {P O : List ℕ} {c : ℕ} → SoundPlaces T P O c → length P ≡ n → ((s : ℕ) → s < n → 0 < get_or P s 0) → Sorted (dep T) n O
+    done : {P O : List ℕ} {c : ℕ} → SoundPlaces D P O c → length P ≡ n → ((s : ℕ) → s < n → 0 < get_or P s 0) → Sorted D n O
     done {P} {O} g l all = rw l at (sorted g (λ x h. all x (omega arith)))
 
     -- k signals are out: each turn puts one
-    grow : (k : ℕ) (P O : List ℕ) (c : ℕ) → zeros P ≡ k → length P ≡ n → SoundPlaces T P O c → (Q : List ℕ) × Sorted (dep T) n Q
+    grow : (k : ℕ) (P O : List ℕ) (c : ℕ) → zeros P ≡ k → length P ≡ n → SoundPlaces D P O c → (Q : List ℕ) × Sorted D n Q
     grow zero P O c z l g = (O, done g l (λ s h. put s h (dec_lt 0 (get_or P s 0))))
       where
         put : (s : ℕ) → s < n → Dec (0 < get_or P s 0) → 0 < get_or P s 0
@@ -87,19 +86,23 @@ module _ (T : List ℕ) (n : ℕ) where
       where
         go :
             ((s : ℕ) × (s < n) × ((get_or P s 0 ≡ 0) × Ready P s)) ⊎ ((s : ℕ) → s < n → get_or P s 0 ≡ 0 → Waits P s) →
-            ((P O : List ℕ) (c : ℕ) → zeros P ≡ k → length P ≡ n → SoundPlaces T P O c → (Q : List ℕ) × Sorted (dep T) n Q) →
-            (Q : List ℕ) × Sorted (dep T) n Q
+            ((P O : List ℕ) (c : ℕ) → zeros P ≡ k → length P ≡ n → SoundPlaces D P O c → (Q : List ℕ) × Sorted D n Q) →
+            (Q : List ℕ) × Sorted D n Q
         go (inr w) again = (O, done g l (all_in P w))
         go (inl (s, h, (e, ready))) again =
             let b : s < length P = omega arith in
             again (set P s (c + 1)) (set O c s) (c + 1) (omega (arith, zeros-set P s (c + 1) b e (omega arith))) (length-set P s (c + 1) ∙ l)
             (put-good g s b e (λ j hj hd. ready j hj (omega arith)))
 
--- where a table's dependences hold no circle there is a good order
-pub order-exists : (T : List ℕ) (n : ℕ) → 4 * n ≤ length T → n ≤ most_signals → has_circle (dep T) n ≡ false → (O : List ℕ) × Sorted (dep T) n O
-order-exists T n t h none =
+-- so there is a good order
+pub sorted-exists : (D : ℕ → ℕ → ℕ) (n : ℕ) → n ≤ most_signals → has_circle D n ≡ false → (O : List ℕ) × Sorted D n O
+sorted-exists D n h none =
     let len = length-replicate {A = ℕ} n 0 in
-    grow T n none n (replicate n 0) (replicate n 0) 0 (zeros-replicate n) len (good_none T (replicate n 0) n t (omega arith) h)
+    grow D n none n (replicate n 0) (replicate n 0) 0 (zeros-replicate n) len (good_none D (replicate n 0) n (omega arith) h)
+
+-- as of a table
+pub order-exists : (T : List (List ℕ)) (n : ℕ) → n ≤ most_signals → has_circle (dep T) n ≡ false → (O : List ℕ) × Sorted (dep T) n O
+order-exists T = sorted-exists (dep T)
 
 -- there is a list of the first m values of a function
 pub listed : (f : ℕ → ℕ) (m : ℕ) → (l : List ℕ) × (length l ≡ m) × ((i : ℕ) → i < m → get_or l i 0 ≡ f i)
@@ -112,18 +115,3 @@ listed f (suc m) = go (listed (λ i. f (suc i)) m)
         here : (i : ℕ) → i < suc m → get_or (f zero ∷ l) i 0 ≡ f i
         here zero h = refl
         here (suc i) h = at i (omega arith)
-
--- so there is a good order for any account of the dependences
-pub sorted-exists : (D : ℕ → ℕ → ℕ) (n : ℕ) → n ≤ most_signals → has_circle D n ≡ false → (O : List ℕ) × Sorted D n O
-sorted-exists D n h none = go (listed (λ q. D (q / 4) (q % 4)) (4 * n))
-  where
-    go : (T : List ℕ) × (length T ≡ 4 * n) × ((q : ℕ) → q < 4 * n → get_or T q 0 ≡ D (q / 4) (q % 4)) → (O : List ℕ) × Sorted D n O
-    go (T, l, at) =
-        let r = order-exists T n (omega arith) h (circle-same (dep T) D n agree ∙ none) in
-        (r.0, sorted-same (dep T) D n agree r.0 r.1)
-      where
-        agree : (s j : ℕ) → s < n → j < 4 → dep T s j ≡ D s j
-        agree s j hs hj =
-            let a : (4 * s + j) / 4 ≡ s = omega arith in
-            let b : (4 * s + j) % 4 ≡ j = omega arith in
-            at (4 * s + j) (omega arith) ∙ rw (a, b)

@@ -1,14 +1,14 @@
 -- Dependences between signals, when they hold a circle, and what a good order is.
 -- D s k is entry k of signal s, k below 4: a signal that s depends on, or any number from n on for none.
-use Rattle.std.specs.Prelude.{◌≡◌, List, Bool, false, ◌&&◌, ◌||◌, ℕ, zero, suc, ◌+◌, ◌*◌, ◌<◌, ltb, get_or}
+use Rattle.std.specs.Prelude.{◌≡◌, List, [], Bool, false, ◌&&◌, ◌||◌, ℕ, zero, suc, ◌<◌, ltb, get_or}
 
 -- so many signals there are at most, two a channel; the code's constant stands in src/lib.rt
 abbrev pub most_signals : ℕ
 most_signals = 510
 
--- the dependences that a table of four entries a signal holds
-abbrev pub dep : List ℕ → ℕ → ℕ → ℕ
-dep T s k = get_or T (4 * s + k) 0
+-- the dependences that a table holds, a row of four entries a signal
+abbrev pub dep : List (List ℕ) → ℕ → ℕ → ℕ
+dep T s k = get_or (get_or T s []) k 0
 
 -- s depends on d
 pub record Depends (D : ℕ → ℕ → ℕ) (n s d : ℕ) : Type 0 where

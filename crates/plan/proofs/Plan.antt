@@ -1,9 +1,11 @@
 -- What is noted for a signal of an accepted fabric, and that what is laid out is a plan. Assumes nothing.
 use mathlib.Core.Path.{◌≡◌, sym, ap, ◌∙◌}
 use mathlib.Core.List.{List, ◌++◌}
-use Prim.Native.Nat.{ℕ, ◌*◌, ◌/◌, ◌≤◌, ◌<◌}
+use Prim.Native.Nat.{ℕ, suc, ◌*◌, ◌/◌, ◌≤◌, ◌<◌}
 use native.Mathlib.Omega.{arith}
-use lib.ListN.{length, drop}
+use native.Mathlib.Decide.{dec_lt}
+use Rattle.std.proofs.lemmas.List.{get_or_past}
+use lib.ListN.{length, get_or, drop}
 use Rattle.digits.specs.UpTo.{up_to}
 use Rattle.digits.proofs.UpTo.{length-filled, filled-rest}
 use Rattle.wiring.specs.Signals.{end_of}
@@ -11,6 +13,14 @@ use Rattle.netlist.specs.Netlist.{Netlist}
 use Rattle.netlist.specs.Accepted.{AcceptedFabric}
 use Rattle.plan.specs.declared.Place.{Place}
 use Rattle.plan.specs.Plan.{planned, Planned}
+
+-- what is not 0 stands in the list
+pub stands : (xs : List ℕ) (i e : ℕ) → get_or xs i 0 ≡ suc e → i < length xs
+stands xs i e q = within (dec_lt i (length xs))
+  where
+    within : Dec (i < length xs) → i < length xs
+    within (yes h) = h
+    within (no h) = let z = get_or_past xs i 0 (omega arith) in absurd (omega (arith, q, z))
 
 module _ {f : Netlist} {ends order : List ℕ} (a : AcceptedFabric f ends order) where
   -- the component that gives a signal

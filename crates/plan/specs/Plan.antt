@@ -10,9 +10,9 @@ use Rattle.netlist.specs.Accepted.{AcceptedFabric}
 use Rattle.rules.specs.Seen.{named}
 use Rattle.plan.specs.declared.Place.{Place}
 
--- of signal s, given by end e of a component with this row: the name of its rule, s, the component, and the channels at the component's ports
+-- of signal s, given by end e of a component with this row: the name of its rule, its channel, the component, and the channels at the component's ports
 abbrev pub place_of : List ℕ → ℕ → ℕ → Place
-place_of row s e = record { rule = named (kind row) (end_port e); signal = s; component = e / 3; a = port row A; b = port row B; c = port row C }
+place_of row s e = record { rule = named (kind row) (end_port e); channel = s / 2; component = e / 3; a = port row A; b = port row B; c = port row C }
 
 -- place i of the plan along an order
 unfoldable pub planned : Netlist → List ℕ → ℕ → Place

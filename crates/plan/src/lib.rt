@@ -10,18 +10,19 @@ use component::Port;
 use netlist::Fabric;
 use rules::Rule;
 
-/// What a signal's rule needs: its name, the signal, the component that gives it, and the channels at that component's ports.
+/// What a signal's rule needs: its name, which says whether it gives an offer or a take, the signal's channel, the component that gives it,
+/// and the channels at that component's ports.
 #[derive(Clone, Copy, Debug, PartialEq, Eq)]
 pub struct Place {
     pub rule: Rule,
-    pub signal: u16,
+    pub channel: u8,
     pub component: u8,
     pub a: u8,
     pub b: u8,
     pub c: u8,
 }
 
-// The place of entry i of the order.
+// The place of entry i of the order, whose signals and ends are numbers: signal 2x and 2x + 1 of channel x, end 3k + p at port p of component k.
 fn place_at(fabric: &Fabric, i: usize) -> Place
     requires { i < 2 * fabric.now.netlist.size.channels }
     ensures { result ≡ planned (facts_of fabric.now.netlist) fabric.now.order.now i }
@@ -32,7 +33,7 @@ fn place_at(fabric: &Fabric, i: usize) -> Place
     let table = fabric.netlist.table;
     Place {
         rule: Rule::at(table.kind(k), Port::from(end as usize % 3)),
-        signal,
+        channel: (signal / 2) as u8,
         component: k as u8,
         a: table.port(k, Port::A),
         b: table.port(k, Port::B),

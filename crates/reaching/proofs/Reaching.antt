@@ -1,6 +1,6 @@
 -- What `reach` comes to, by what reading comes to. Assumes nothing.
-use Rattle.std.proofs.Common.{◌≡◌, refl, ap, ap₂, ◌∙◌, List, ◌++◌, ℕ, length, take, drop, Result, Ok, Err, zero-add}
-use lib.Seq.{paste, take_at}
+use Rattle.std.proofs.Common.{◌≡◌, refl, ap, ◌∙◌, List, ℕ, length, take, drop, Result, Ok, Err}
+use lib.Seq.{take_at}
 use Rattle.digits.specs.UpTo.{up_to}
 use Rattle.digits.proofs.UpTo.{length-up_to, filled_is}
 use Rattle.refusals.specs.Refusals.{first_refusal}

@@ -43,5 +43,5 @@ module _ (file : List ℕ) {s : Size} (e : reading file ≡ Ok s) where
   pub accepted-records : first_refusal (record_tests s.colours s.channels file (open_table file s.components) s.components) ≡ (Ok tt)
   accepted-records = rw (← accepted-parts.1) rest.1
 
-  pub accepted-long : (length file ≡ file_size s.components) × (s.components ≤ most_components)
-  accepted-long = let n = accepted-size.2 in (omega (arith, n, accepted-header.long), omega (arith, n, accepted-header.few_rows))
+  pub accepted_long : (length file ≡ file_size s.components) × (s.components ≤ most_components)
+  accepted_long = let n = accepted-size.2 in (omega (arith, n, accepted-header.long), omega (arith, n, accepted-header.few_rows))

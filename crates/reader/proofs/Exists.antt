@@ -27,7 +27,7 @@ use Rattle.netlist.specs.declared.Size.{Size}
 use Rattle.netlist.specs.Accepted.{AcceptedFabric}
 use Rattle.reader.specs.File.{header_fields, colours_in, channels_in, components_in, wire_tests}
 use Rattle.reader.specs.Reading.{reading}
-use Rattle.reader.proofs.Tests.{colours-lt, channels-lt}
+use Rattle.reader.proofs.Tests.{colours_lt, channels-lt}
 use Rattle.reader.proofs.Facts.{mask-byte, good-records, records-accepted}
 use Rattle.reader.proofs.Accepted.{accepted-size, accepted-header, accepted-records}
 
@@ -70,7 +70,7 @@ accepted-exists file s e =
     let a : colours_in (header_fields file) ≡ C = (accepted-size file e).0 in
     let b : channels_in (header_fields file) ≡ M = (accepted-size file e).1 in
     let c : components_in (header_fields file) ≡ N = (accepted-size file e).2 in
-    let ca = colours-lt file in
+    let ca = colours_lt file in
     let cb = channels-lt file in
     let some_colours : 0 < C = omega arith in
     let few_colours : C ≤ most_colours = omega arith in

@@ -1,6 +1,6 @@
 -- What a file that passed its tests gives. Assumes nothing.
-use Rattle.std.proofs.Common.{Some, None}
-use Rattle.std.proofs.Common.{Result, Ok, Err}
+use Rattle.std.proofs.Common.{Option, Some, None}
+use Rattle.std.proofs.Common.{Result, Ok, Err, IfErr, IfOk}
 use mathlib.Core.Path.{◌≡◌, refl, ap, ap₂, sym, ◌∙◌}
 use Prim.Native.Nat.{ℕ, ◌*◌, ◌%◌, ◌≤◌, ◌<◌}
 use native.Mathlib.Nat.{mod-lt}
@@ -21,7 +21,7 @@ use Rattle.refusals.specs.declared.Refusal.TheVariants.{FileShort, WrongEdition,
 use Rattle.refusals.proofs.Refusals.{and_then, refusal-append, cond-accepted}
 use Rattle.record.specs.Record.{record_row, record_pad}
 use Rattle.record.specs.Table.{row, record_at, open_table}
-use Rattle.record.specs.Sizes.{file_size, row_size}
+use Rattle.record.specs.Sizes.{file_size, header_size, row_size}
 use Rattle.record.proofs.Table.{length-rows, row_open}
 use Rattle.component.specs.Row.{row_ok}
 use Rattle.component.specs.Limits.{most_channels, most_colours, most_components}
@@ -32,13 +32,15 @@ use Rattle.wiring.specs.Refused.{refusal_of}
 use Rattle.wiring.specs.declared.Miswired.{Miswired}
 use Rattle.netlist.specs.Netlist.{netlist_of}
 use Rattle.netlist.specs.declared.Size.{Size}
-use Rattle.netlist.specs.Accepted.{AcceptedFabric}
+use Rattle.netlist.specs.declared.Fabric.{Fabric}
+use Rattle.reader.specs.View.{size_of}
+use Rattle.netlist.specs.Accepted.{AcceptedFabric, AcceptedNetlist}
 use Rattle.search.specs.First.{first}
 use Rattle.search.proofs.Laws.{first_least, none_least}
 use Rattle.reader.specs.File.{header_fields, colours_in, channels_in, components_in, size_in, bad_row, bad_record, first_bad_record, header_tests, record_tests, wire_tests}
 use Rattle.reader.specs.Reading.{read_as, reading}
 use Rattle.reader.specs.Stages.{header_read, wired_verdict, Headed}
-use Rattle.reader.proofs.Tests.{wire-tests, wrong_edition, wrong_range, positive, colours-lt, channels-lt}
+use Rattle.reader.proofs.Tests.{wire-tests, wrong_edition, wrong_range, positive, colours_lt, channels-lt}
 
 -- ---- answers, taken apart
 pub read-fabric : (v : Result Unit Refusal) (t : Size) {s : Size} → read_as v t ≡ Ok s → (v ≡ (Ok tt)) × (t ≡ s)
@@ -48,10 +50,6 @@ read-fabric (Err r) t e = let z : ◌≡◌ {A = ℕ} 0 1 = cc in absurd (omega 
 pub read-rejected : (v : Result Unit Refusal) (t : Size) {r : Refusal} → read_as v t ≡ Err r → v ≡ Err r
 read-rejected (Ok tt) t e = let z : ◌≡◌ {A = ℕ} 0 1 = cc in absurd (omega arith)
 read-rejected (Err q) t {r} e = let z : q ≡ r = cc in ap Err z
-
-wired-accepted : (w : Result Unit Miswired) → wired_verdict w ≡ Ok tt → w ≡ Ok tt
-wired-accepted (Ok _) e = refl
-wired-accepted (Err m) e = let z : ◌≡◌ {A = ℕ} 0 1 = cc in absurd (omega arith)
 
 -- ---- the records
 module _ (colours channels n : ℕ) (file table : List ℕ) where
@@ -116,18 +114,14 @@ unfolding record_row
 mask-byte file n k h = rw (row_open file n k h) (mod-lt _ (pow_pos 8))
 
 -- ---- the whole file
--- what the header's fields come to
-pub headed : (file : List ℕ) {h : List ℕ} {r x : Result Size Refusal} → h ≡ header_fields file → r ≡ header_read h file → r ≡ x → header_read (header_fields file) file ≡ x
-headed f eh er ex = ap (λ (h : List ℕ). header_read h f) (sym eh) ∙ sym er ∙ ex
-
 module _ (file : List ℕ) where
   -- the tests of the records, with a header's numbers
   abbrev records_of : Size → Result Unit Refusal
   records_of s = first_refusal (record_tests s.colours s.channels file (open_table file s.components) s.components)
 
-  pub is-short : length file < 4 → reading file ≡ Err FileShort
+  pub is_short : length file < header_size → reading file ≡ Err FileShort
   unfolding reading
-  is-short l = rw (lt-ltb (length file) 4 l)
+  is_short l = rw (lt-ltb (length file) header_size l)
 
   module _ (l : 4 ≤ length file) where
     pub reading-is : reading file ≡ read_as (and_then (first_refusal (header_tests (header_fields file) file)) (records_of (size_in (header_fields file)))) (size_in (header_fields file))
@@ -157,7 +151,7 @@ module _ (file : List ℕ) where
           let a : colours_in (header_fields file) ≡ s.colours = ap (λ (t : Size). t.colours) head.1 in
           let b : channels_in (header_fields file) ≡ s.channels = ap (λ (t : Size). t.channels) head.1 in
           let c : components_in (header_fields file) ≡ s.components = ap (λ (t : Size). t.components) head.1 in
-          let ca = colours-lt file in
+          let ca = colours_lt file in
           let cb = channels-lt file in
           (omega (arith, f.few_rows), omega arith, omega arith, omega (arith, f.long), omega arith, omega (arith, f.some_channels), omega (arith, f.some_rows))
 
@@ -188,43 +182,70 @@ module _ (file : List ℕ) where
             wires = wires;
           }
 
+-- what the header's fields come to
+module _ (file : List ℕ) (l : header_size ≤ length file) where
+  refused_as : (r : Result Size Refusal) → header_read (header_fields file) file ≡ r → IfErr r (λ refusal. reading file ≡ Err refusal)
+  refused_as (Ok s) e = tt
+  refused_as (Err r) e = is-rejected file l r e
+
+  read_right : (r : Result Size Refusal) → header_read (header_fields file) file ≡ r → IfOk r (λ size. Headed file size)
+  read_right (Ok s) e = headed-facts file l s e
+  read_right (Err r) e = tt
+
+  module _ {h : List ℕ} {r : Result Size Refusal} (eh : h ≡ header_fields file) (er : r ≡ header_read h file) where
+    pub size_refused : IfErr r (λ refusal. reading file ≡ Err refusal)
+    size_refused = refused_as r (sym (rw eh at er))
+
+    pub size_read : IfOk r (λ size. Headed file size)
+    size_read = read_right r (sym (rw eh at er))
+
 -- ---- the ways through a file whose header is right, with the rows that were laid down
-module _ (file : List ℕ) {s : Size} (h : Headed file s) {t : List ℕ} (front : t ≡ open_table file s.components) where
-  abbrev pub bad : ℕ → Bool
-  bad = bad_record s.colours s.channels file t
+abbrev laid_rows : Size → List ℕ → List ℕ
+laid_rows s after = take (row_size * s.components) after
 
-  same : first_bad_record s.colours s.channels file t s.components ≡ first_bad_record s.colours s.channels file (open_table file s.components) s.components
-  same = ap (λ u. first_bad_record s.colours s.channels file u s.components) front
+abbrev pub bad : List ℕ → Size → List ℕ → ℕ → Bool
+bad file s after = bad_record s.colours s.channels file (laid_rows s after)
 
-  pub read-field : (k : ℕ) → first bad s.components ≡ Some k → Err (BadField k) ≡ reading file
-  unfolding first_bad_record
-  read-field k e =
-      let w = first_least bad s.components k e in
-      rest-refused file h.enough s h.is (field-refused s.colours s.channels s.components file (open_table file s.components) k (sym w.1 ∙ same) w.0)
+module _ (file : List ℕ) {s : Size} (h : Headed file s) (before : List ℕ) {after : List ℕ} (laid : after ≡ open_table file s.components ++ drop (row_size * s.components) before) where
+  -- the rows stand in front
+  pub rows_front : laid_rows s after ≡ open_table file s.components
+  rows_front = ap (take (row_size * s.components)) laid ∙ take_at (open_table file s.components) (drop (row_size * s.components) before) (row_size * s.components) (length-rows file s.components)
 
-  module _ (none : first bad s.components ≡ None) where
-    all : s.components ≤ first_bad_record s.colours s.channels file t s.components
+  pub rows_long : length (laid_rows s after) ≡ row_size * s.components
+  rows_long = ap length rows_front ∙ length-rows file s.components
+
+  same : first_bad_record s.colours s.channels file (laid_rows s after) s.components ≡ first_bad_record s.colours s.channels file (open_table file s.components) s.components
+  same = ap (λ u. first_bad_record s.colours s.channels file u s.components) rows_front
+
+  module _ {found : Option ℕ} (is : found ≡ first (bad file s after) s.components) where
+    pub read_field : {k : ℕ} → found ≡ Some k → Err (BadField k) ≡ reading file
     unfolding first_bad_record
-    all = omega (arith, none_least bad s.components none)
+    read_field {k} e =
+        let w = first_least (bad file s after) s.components k (sym is ∙ e) in
+        rest-refused file h.enough s h.is (field-refused s.colours s.channels s.components file (open_table file s.components) k (sym w.1 ∙ same) w.0)
 
-    all-open : s.components ≤ first_bad_record s.colours s.channels file (open_table file s.components) s.components
-    all-open = rw same at all
+    module _ (none : found ≡ None) where
+      all : s.components ≤ first_bad_record s.colours s.channels file (laid_rows s after) s.components
+      unfolding first_bad_record
+      all = omega (arith, none_least (bad file s after) s.components (sym is ∙ none))
 
-    pub read-kinds : Kinds t s.components
-    read-kinds = table-kinds s.colours s.channels s.components file t h.few (ap length front ∙ length-rows file s.components) all
+      all-open : s.components ≤ first_bad_record s.colours s.channels file (open_table file s.components) s.components
+      all-open = rw same at all
 
-    pub read-miswired : {m : Miswired} → Err m ≡ wired t s.components s.channels → Err (refusal_of m) ≡ reading file
-    read-miswired e = rest-refused file h.enough s h.is (wires-refused s.colours s.channels s.components file (open_table file s.components) _ refl all-open (rw front at e))
+      pub read_kinds : Kinds (laid_rows s after) s.components
+      read_kinds = table-kinds s.colours s.channels s.components file (laid_rows s after) h.few rows_long all
 
-    pub read-passed : Ok tt ≡ wired t s.components s.channels → Ok s ≡ reading file
-    read-passed e = rest-passed file h.enough s h.is (wires-passed s.colours s.channels s.components file (open_table file s.components) _ refl all-open (rw front at e))
+      pub read_miswired : {m : Miswired} {r : Result Fabric Refusal} → Err m ≡ wired (laid_rows s after) s.components s.channels → r ≡ Err (refusal_of m) → size_of r ≡ reading file
+      read_miswired e er = ap size_of er ∙ rest-refused file h.enough s h.is (wires-refused s.colours s.channels s.components file (open_table file s.components) _ refl all-open (rw rows_front at e))
 
-    pub read-facts : {ends order : List ℕ} → SoundWires t s.components s.channels ends order → AcceptedFabric (netlist_of s t) ends order
-    read-facts w = rw front (fabric-facts file h.enough s h.is _ _ all-open (rw front at w))
+      pub read_passed : Ok tt ≡ wired (laid_rows s after) s.components s.channels → Ok s ≡ reading file
+      read_passed e = rest-passed file h.enough s h.is (wires-passed s.colours s.channels s.components file (open_table file s.components) _ refl all-open (rw rows_front at e))
 
--- the rows stand in front
-pub rows-front : (file before after : List ℕ) (N : ℕ) → after ≡ open_table file N ++ drop (row_size * N) before → take (row_size * N) after ≡ open_table file N
-rows-front file before after N e = ap (take (row_size * N)) e ∙ take_at (open_table file N) (drop (row_size * N) before) (row_size * N) (length-rows file N)
+      pub read_facts : {ends order : List ℕ} → SoundWires (laid_rows s after) s.components s.channels ends order → AcceptedFabric (netlist_of s (laid_rows s after)) ends order
+      read_facts w = rw rows_front (fabric-facts file h.enough s h.is _ _ all-open (rw rows_front at w))
 
-pub rows-front-long : (file before after : List ℕ) (N : ℕ) → after ≡ open_table file N ++ drop (row_size * N) before → row_size * N ≡ length (take (row_size * N) after)
-rows-front-long file before after N e = sym (ap length (rows-front file before after N e) ∙ length-rows file N)
+      pub netlist_holds : {ends order : List ℕ} → SoundWires (laid_rows s after) s.components s.channels ends order → ∥ AcceptedNetlist (netlist_of s (laid_rows s after)) ∥₁
+      netlist_holds w = ∣ record { ends = _; order = _; facts = read_facts w } ∣₁
+
+      pub fabric_holds : {ends order : List ℕ} → SoundWires (laid_rows s after) s.components s.channels ends order → ∥ AcceptedFabric (netlist_of s (laid_rows s after)) ends order ∥₁
+      fabric_holds w = ∣ read_facts w ∣₁

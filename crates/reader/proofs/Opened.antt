@@ -13,7 +13,6 @@ use Rattle.netlist.specs.Accepted.{AcceptedFabric}
 use Rattle.netlist.specs.declared.Size.{Size}
 use Rattle.reader.specs.File.{header_fields, size_in, netlist_in, file_tests}
 use Rattle.reader.specs.Reading.{read_as, reading}
-use Rattle.reader.proofs.Facts.{read-rejected}
 use Rattle.reader.proofs.Accepted.{accepted-parts}
 use Rattle.reader.proofs.Exists.{accepted-exists}
 
@@ -24,19 +23,9 @@ after-file file rest e = then-accepted (first_refusal (file_tests file)) (first_
 pub rest_of : (file : List ℕ) → first_refusal (file_tests file) ≡ (Ok tt) → (rest : List Test) → first_refusal (file_tests file ++ rest) ≡ first_refusal rest
 rest_of file ok rest = refusal-append (file_tests file) rest ∙ ap (λ (v : Result Unit Refusal). and_then v (first_refusal rest)) ok
 
--- a file that is refused, a file that is read: what a call answers whose other tests are these
-module _ (file : List ℕ) where
-  pub rest-refused : (rest : List Test) {r : Refusal} → reading file ≡ Err r → Err r ≡ first_refusal (file_tests file ++ rest)
-  unfolding reading
-  rest-refused rest e = sym (refusal-append (file_tests file) rest ∙ ap (λ (v : Result Unit Refusal). and_then v (first_refusal rest)) (read-rejected (first_refusal (file_tests file)) _ e))
-
-  module _ {s : Size} (e : reading file ≡ Ok s) where
-    pub rest-judged : (f : Netlist) → netlist_in file ≡ f → (rest : Netlist → List Test) → first_refusal (rest f) ≡ first_refusal (file_tests file ++ rest (netlist_in file))
-    rest-judged f same rest = sym (rest_of file (accepted-parts file e).0 (rest (netlist_in file)) ∙ ap (λ (g : Netlist). first_refusal (rest g)) same)
-
-    pub netlist-is : netlist_in file ≡ netlist_of s (open_table file s.components)
-    unfolding netlist_in
-    netlist-is = ap (λ (t : Size). netlist_of t (open_table file t.components)) (accepted-parts file e).1
+pub netlist-is : (file : List ℕ) {s : Size} → reading file ≡ Ok s → netlist_in file ≡ netlist_of s (open_table file s.components)
+unfolding netlist_in
+netlist-is file e = ap (λ (t : Size). netlist_of t (open_table file t.components)) (accepted-parts file e).1
 
 -- the facts of every accepted file
 file-reads : (file : List ℕ) → first_refusal (file_tests file) ≡ (Ok tt) → reading file ≡ Ok (size_in (header_fields file))

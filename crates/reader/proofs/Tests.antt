@@ -1,7 +1,7 @@
 -- What each way through the header and the channels shows. Assumes nothing.
 use Rattle.std.proofs.Common.{Ok, Err}
 use mathlib.Core.Path.{◌≡◌, refl}
-use Prim.Native.Nat.{ℕ, ◌*◌, ◌%◌, ◌≤◌, ◌<◌}
+use Prim.Native.Nat.{ℕ, ◌*◌, ◌%◌, ◌<◌}
 use native.Mathlib.Nat.{mod-lt}
 use native.Mathlib.Omega.{arith}
 use mathlib.Core.Bool.{Bool, true, false, cond, not, ◌||◌}
@@ -9,12 +9,11 @@ use mathlib.Core.List.{List}
 use lib.ListN.{length, get_or}
 use lib.Dec.{ltb, eqb}
 use lib.Pow.{pow_pos}
-use borrow.Author.Tests.{ne_eqb, eq-eqb, eqb-false, ltb-false}
+use borrow.Author.Tests.{eq-eqb, eqb-false}
 use Rattle.digits.specs.Sum.{sum}
-use Rattle.digits.proofs.Bools.{or-false}
 use Rattle.order.specs.Graph.{has_circle}
 use Rattle.refusals.specs.Refusals.{first_refusal}
-use Rattle.refusals.specs.declared.Refusal.TheVariants.{WrongEdition, CountRange, WrongLength, ByteSum, ChannelEnds, Circle}
+use Rattle.refusals.specs.declared.Refusal.TheVariants.{ChannelEnds, Circle}
 use Rattle.record.specs.Sizes.{file_size}
 use Rattle.component.specs.Limits.{most_components}
 use Rattle.wiring.specs.Ends.{first_unmatched}
@@ -40,40 +39,19 @@ wrong_edition h = not (eqb (get_or h 0 0) 1) || not (eqb (get_or h 2 0) 0)
 abbrev pub wrong_range : List ℕ → Bool
 wrong_range h = eqb (get_or h 3 0) 0 || ltb most_components (get_or h 3 0) || eqb (get_or h 4 0) 0
 
-module _ (h file : List ℕ) where
-  pub is-edition : wrong_edition h ≡ true → Err WrongEdition ≡ header_read h file
-  unfolding header_read
-  is-edition e = rw e
-
-  pub is-range : wrong_edition h ≡ false → wrong_range h ≡ true → Err CountRange ≡ header_read h file
-  unfolding header_read
-  is-range e₁ e₂ = rw (e₁, e₂)
-
-  module _ (e₁ : wrong_edition h ≡ false) (e₂ : wrong_range h ≡ false) where
-    pub is-length : (length file ≡ file_size (get_or h 3 0) → ⊥) → Err WrongLength ≡ header_read h file
-    unfolding header_read
-    is-length n = rw (e₁, e₂, ne_eqb (length file) (file_size (get_or h 3 0)) n)
-
-    module _ (l : length file ≡ file_size (get_or h 3 0)) (s : ℕ) (es : s ≡ sum file % 256) where
-      pub is_sum : (s ≡ 0 → ⊥) → Err ByteSum ≡ header_read h file
-      unfolding header_read
-      is_sum n = rw (e₁, e₂, eq-eqb (length file) (file_size (get_or h 3 0)) l, ← es, ne_eqb s 0 n)
-
-      pub is_right : s ≡ 0 → Ok (size_in h) ≡ header_read h file
-      unfolding header_read
-      is_right z = rw (e₁, e₂, eq-eqb (length file) (file_size (get_or h 3 0)) l, ← es, eq-eqb s 0 z)
+-- a header that is right
+pub is_right : (h file : List ℕ) → wrong_edition h ≡ false → wrong_range h ≡ false → length file ≡ file_size (get_or h 3 0) → sum file % 256 ≡ 0 → header_read h file ≡ Ok (size_in h)
+unfolding header_read
+is_right h file e₁ e₂ l z = rw (e₁, e₂, eq-eqb (length file) (file_size (get_or h 3 0)) l, z) refl
 
 -- a count that is not 0
 pub positive : (x : ℕ) → eqb x 0 ≡ false → 0 < x
 positive x f = let n = eqb-false x 0 f in omega arith
 
--- a header in range
-pub range-le : (h : List ℕ) → wrong_range h ≡ false → get_or h 3 0 ≤ most_components
-range-le h e = ltb-false most_components (get_or h 3 0) (or-false (eqb (get_or h 3 0) 0) (ltb most_components (get_or h 3 0)) (or-false (eqb (get_or h 3 0) 0 || ltb most_components (get_or h 3 0)) (eqb (get_or h 4 0) 0) e).0).1
-
-pub colours-lt : (file : List ℕ) → get_or (header_fields file) 1 0 < 8
+-- the bounds of its fields
+pub colours_lt : (file : List ℕ) → get_or (header_fields file) 1 0 < 8
 unfolding header_fields
-colours-lt file = mod-lt _ (pow_pos 3)
+colours_lt file = mod-lt _ (pow_pos 3)
 
 pub channels-lt : (file : List ℕ) → get_or (header_fields file) 4 0 < 256
 unfolding header_fields

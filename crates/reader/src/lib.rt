@@ -30,10 +30,11 @@ fn cut_header(x: u64) -> [u8; 6]
         (x / 16777216 % 2) as u8,
         (x / 65536 % 256) as u8,
         (x / 256 % 256) as u8,
-        (x / 1 % 256) as u8,
+        (x % 256) as u8,
     ]
 }
 
+#[tactic(auto, unfolding(crate::specs::File::header_fields))]
 fn header(file: &[u8]) -> [u8; 6]
     requires { header_size ≤ length file.now }
     ensures { result ≡ header_fields file.now }
@@ -42,16 +43,14 @@ fn header(file: &[u8]) -> [u8; 6]
 }
 
 // The refusals 2 to 5 of a file with these header fields.
+#[tactic(auto, unfolding(crate::specs::Stages::header_read))]
 fn read_header(h: [u8; 6], file: &[u8]) -> Result<Size, Refusal>
     requires { get_or h 1 0 < 8 }
     ensures { result ≡ header_read h file.now }
 {
-    let c = h[1];
-    let n = h[3];
-    let m = h[4];
-    let colours = c as usize + 1;
-    let components = n as usize;
-    let channels = m as usize;
+    let colours = usize::from(h[1]) + 1;
+    let components = usize::from(h[3]);
+    let channels = usize::from(h[4]);
     if (h[0] != 1) | (h[2] != 0) {
         return Err(Refusal::WrongEdition);
     }
@@ -72,6 +71,7 @@ fn read_header(h: [u8; 6], file: &[u8]) -> Result<Size, Refusal>
 }
 
 // The refusals 1 to 5 of a file.
+#[tactic(auto, using(crate::proofs::Facts::size_refused, crate::proofs::Facts::size_read, crate::proofs::Facts::is_short, crate::proofs::Tests::colours_lt))]
 fn read_size(file: &[u8]) -> Result<Size, Refusal>
     ensures refused { IfErr result (λ refusal. reading file.now ≡ Err refusal) }
     ensures read { IfOk result (λ size. Headed file.now size) }
@@ -83,6 +83,8 @@ fn read_size(file: &[u8]) -> Result<Size, Refusal>
 }
 
 /// The lowest row that is wrong.
+// The bound on `colours` is a clause of each function that wants it: a `Size` with all its bounds would ask more of callers that use one, and a type for a count of
+// colours would be taken apart wherever it is compared, shifted by and counted up to.
 pub fn first_bad_row(table: &Table, colours: u8, channels: u8) -> Option<usize>
     requires { colours ≤ most_colours }
     ensures { result ≡ first (bad_row colours channels table.now.bytes.now) table.now.rows }
@@ -106,6 +108,7 @@ fn first_bad_record(file: &[u8], table: &Table, colours: u8, channels: u8) -> Op
 
 // Reads a file: the refusals 1 to 8. Of an accepted one it lays down the rows, 1 + the end that gives each signal, and an order of
 // the signals.
+#[tactic(auto, using(crate::proofs::Facts::read_field, crate::proofs::Facts::read_kinds, crate::proofs::Facts::read_miswired, crate::proofs::Facts::read_passed, crate::proofs::Facts::rows_front, crate::proofs::Facts::rows_long, crate::proofs::Facts::netlist_holds, crate::proofs::Facts::fabric_holds))]
 fn read<'a>(
     file: &[u8],
     rows: &'a mut [u8; TABLE_SIZE],

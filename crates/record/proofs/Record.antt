@@ -20,19 +20,18 @@ pub length-record : (f : List ℕ) → length (record_bytes f) ≡ record_size
 unfolding record_bytes
 length-record f = length_fields (bytes record_size) (joined row_widths f 0 * 2 ^ 6)
 
--- ---- reading: the number of a record, from the words of 7 and of 6 bytes
-pub record_words : (s : List ℕ) (at u v : ℕ) → u ≡ joined (bytes 7) s at → v ≡ joined (bytes 6) s (at + 7)
-    → (joined (bytes record_size) s at ≡ u * 281474976710656 + v) × (v < 281474976710656)
-record_words s at u v eu ev = (joined-append (bytes 7) (bytes 6) s at ∙ rw (eu, ev), rw ev (joined-lt (bytes 6) s (at + 7)))
-
--- the row, from the upper 51 bits and the lower 47
-pub record_cut : (s : List ℕ) (at x y : ℕ) → x ≡ joined (bytes record_size) s at / 64 / 140737488355328
-    → y % 140737488355328 ≡ joined (bytes record_size) s at / 64 % 140737488355328
-    → fields upper_widths x ++ fields lower_widths y ≡ record_row s at
+-- ---- reading: the row of a record, from the words of 7 and of 6 bytes: its upper 51 bits and the lower 47
+pub record_cut : (s : List ℕ) (at : ℕ) {u v : ℕ} {cut : List ℕ} → u ≡ joined (bytes 7) s at → v ≡ joined (bytes 6) s (at + 7)
+    → cut ≡ fields upper_widths (u / 32) ++ fields lower_widths ((u % 32 * 281474976710656 + v) / 64) → cut ≡ record_row s at
 unfolding record_row
-record_cut s at x y ex ey =
+record_cut s at {u} {v} eu ev is =
+    let all : joined (bytes record_size) s at ≡ u * 281474976710656 + v = joined-append (bytes 7) (bytes 6) s at ∙ rw (eu, ev) in
+    let low : v < 281474976710656 = rw ev (joined-lt (bytes 6) s (at + 7)) in
     let n : ℕ = joined (bytes record_size) s at / 64 in
-    rw (ex, ← fields-low lower_widths y, ey, fields-low lower_widths n, ← fields-append upper_widths lower_widths n)
+    let y : ℕ = (u % 32 * 281474976710656 + v) / 64 in
+    let ex : u / 32 ≡ n / 140737488355328 = omega arith in
+    let ey : y % 140737488355328 ≡ n % 140737488355328 = omega arith in
+    is ∙ rw (ex, ← fields-low lower_widths y, ey, fields-low lower_widths n, ← fields-append upper_widths lower_widths n)
 
 -- the last six bits stand in the last byte
 last-bits : (n u b : ℕ) → n ≡ u * 256 + b % 256 → b < 256 → b % 64 ≡ n % 64

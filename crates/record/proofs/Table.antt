@@ -6,6 +6,8 @@ use native.Mathlib.Numerals.{add-one}
 use native.Mathlib.Decide.{dec_lt}
 use native.Mathlib.Omega.{arith}
 use mathlib.Core.List.{List, [], ◌++◌, append_assoc, append-nil}
+use borrow.Rule.Slice.PartMut.{put_mid}
+use Rattle.std.proofs.lemmas.Slice.{put_mid-paste}
 use lib.ListN.{length, get_or, take, drop, length-append, length-drop, take-append-drop}
 use lib.Seq.{paste, take_at, drop_at, length-take-le, drop-drop, get_or-drop, get_or-take, take_all, take-append-le, drop-append-le}
 use Rattle.record.specs.Record.{record_row, record_bytes}
@@ -100,10 +102,12 @@ module _ (file : List ℕ) where
   unfolding open_table
   rows_none t = refl
 
-  pub rows_more : (t : List ℕ) (k : ℕ) (b : List ℕ) → b ≡ record_row file (record_at k) → paste (open_table file k ++ drop (row_size * k) t) (row_size * k) b row_size ≡ open_table file (k + 1) ++ drop (row_size * (k + 1)) t
-  rows_more t k b e =
+  pub rows_more : (old : List ℕ) (k : ℕ) {w : ℕ} {t new b : List ℕ} → w ≡ row_size → t ≡ open_table file k ++ drop (row_size * k) old → new ≡ b → b ≡ record_row file (record_at k)
+      → put_mid (row_size * k) w t new ≡ open_table file (k + 1) ++ drop (row_size * (k + 1)) old
+  rows_more old k {w} {t} {new} {b} ew before en eb =
       let z : (n : ℕ) → 0 + row_size * n ≡ row_size * n = λ n. zero-add (row_size * n) in
-      rw (add-one k, ← z k, ← z (suc k)) (parts_more row_size (λ k. record_row file (record_at k)) (λ k. length-row file (record_at k)) (open_table file) (rows-zero file) (rows-suc file) [] t k b e)
+      put_mid-paste (row_size * k) w t new b row_size en (sym ew) (rw eb (sym (length-row file (record_at k))))
+      ∙ rw (before, add-one k, ← z k, ← z (suc k)) (parts_more row_size (λ k. record_row file (record_at k)) (λ k. length-row file (record_at k)) (open_table file) (rows-zero file) (rows-suc file) [] old k b eb)
 
 -- ---- the records of a table's rows
 module _ (t : List ℕ) where
@@ -124,14 +128,15 @@ module _ (t : List ℕ) where
   pub records-front : (n k : ℕ) → k ≤ n → take (record_size * k) (records t n) ≡ records t k
   records-front = parts-front record_size (λ k. record_bytes (row t k)) (λ k. length-record (row t k)) (records t) records-zero records-suc
 
-  pub records-none : (o : List ℕ) → o ≡ take header_size o ++ records t 0 ++ drop (4 + record_size * 0) o
+  pub records_none : (o : List ℕ) → o ≡ take header_size o ++ records t 0 ++ drop header_size o
   unfolding records
-  records-none o = sym (take-append-drop header_size o) ∙ ap (λ (l : List ℕ). l ++ drop header_size o) (sym (append-nil (take header_size o)))
+  records_none o = sym (take-append-drop header_size o) ∙ ap (λ (l : List ℕ). l ++ drop header_size o) (sym (append-nil (take header_size o)))
 
-  pub records-more : (o : List ℕ) (k : ℕ) (b : List ℕ) → header_size ≤ length o → b ≡ record_bytes (row t k)
-      → paste (take header_size o ++ records t k ++ drop (file_size k) o) (file_size k) b record_size ≡ take header_size o ++ records t (k + 1) ++ drop (file_size (k + 1)) o
-  records-more o k b h e =
-      let four : length (take header_size o) ≡ header_size = length-take-le header_size o h in
-      rw (add-one k)
-      (subst (λ (f : ℕ). paste (take header_size o ++ records t k ++ drop (f + record_size * k) o) (f + record_size * k) b record_size ≡ take header_size o ++ records t (suc k) ++ drop (f + record_size * suc k) o) four
-      (parts_more record_size (λ k. record_bytes (row t k)) (λ k. length-record (row t k)) (records t) records-zero records-suc (take header_size o) o k b e))
+  pub records_more : (old : List ℕ) (k : ℕ) {o new : List ℕ} → new ≡ paste o (file_size k) (record_bytes (row t k)) record_size → o ≡ take header_size old ++ records t k ++ drop (file_size k) old → header_size ≤ length old
+      → new ≡ take header_size old ++ records t (k + 1) ++ drop (file_size (k + 1)) old
+  records_more old k after before h =
+      let four : length (take header_size old) ≡ header_size = length-take-le header_size old h in
+      after
+      ∙ rw (before, add-one k)
+      (subst (λ (f : ℕ). paste (take header_size old ++ records t k ++ drop (f + record_size * k) old) (f + record_size * k) (record_bytes (row t k)) record_size ≡ take header_size old ++ records t (suc k) ++ drop (f + record_size * suc k) old) four
+      (parts_more record_size (λ k. record_bytes (row t k)) (λ k. length-record (row t k)) (records t) records-zero records-suc (take header_size old) old k (record_bytes (row t k)) refl))

@@ -7,6 +7,9 @@ ghost use Rattle.record.specs.Record.{upper_widths, lower_widths, record_row, re
 ghost use Rattle.record.specs.Table.{row, open_table};
 ghost use Rattle.record.specs.Sizes.{record_size, file_size, row_size};
 
+// A row or a record is found by a product with these: the layout of the file and of the table that a caller lends. `put_rows` writes by the
+// same products, since std says nothing of what a slice holds after `chunks_exact_mut`.
+
 /// The bytes of a header.
 pub const HEADER_SIZE: usize = 4;
 
@@ -50,6 +53,7 @@ fn cut_row(x: u64, y: u64) -> [u8; ROW_SIZE]
 }
 
 /// The row of the record at index `at`.
+#[tactic(auto, using(crate::proofs::Record::record_cut))]
 pub fn record_row(file: &[u8], at: usize) -> [u8; ROW_SIZE]
     requires { at + record_size ≤ length file.now }
     ensures { result ≡ record_row file.now at }
@@ -130,7 +134,7 @@ pub fn record_bytes(row: [u8; ROW_SIZE]) -> [u8; RECORD_SIZE]
     cut_bytes(upper * 32 + lower / 4398046511104, lower * 64)
 }
 
-/// Row `k` of a table.
+/// Row `k` of a table. It takes bytes: `component::Table` stands above this crate and reads its rows by this function.
 pub fn row_at(table: &[u8], k: usize) -> [u8; ROW_SIZE]
     requires { row_size * k + row_size ≤ length table.now }
     ensures { result ≡ row table.now k }
@@ -141,7 +145,8 @@ pub fn row_at(table: &[u8], k: usize) -> [u8; ROW_SIZE]
     row
 }
 
-/// Writes the rows of `n` records.
+/// Writes the rows of `n` records. It takes bytes: a `component::Table` is made of them once they are written.
+#[tactic(auto, using(crate::proofs::Table::rows_none, crate::proofs::Table::rows_more))]
 pub fn put_rows(file: &[u8], n: usize, table: &mut [u8])
     requires { (file_size n ≤ length file.now) × (row_size * n ≤ length table.old) }
     ensures { table.new ≡ open_table file.now n ++ drop (row_size * n) table.old }

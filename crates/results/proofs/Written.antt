@@ -8,10 +8,8 @@ use native.Mathlib.Decide.{dec_lt}
 use native.Mathlib.Omega.{arith}
 use lib.ListN.{length, get_or, take, drop, length-append, length-drop, get_or-append}
 use lib.Seq.{take_at, drop_at, drop-drop, get_or-append-add}
-use Rattle.flows.specs.Terms.{most_terms}
 use lib.IntN.{ℤ}
 use mathlib.Core.Bool.{false}
-use Rattle.std.proofs.lemmas.List.{length-take}
 use native.Mathlib.Nat.{mul-le-mul_left}
 use Rattle.blocks.specs.Blocks.{term_count, block, blocks, bad_blocks, each_block, behind, StartsWhole, IsSplit}
 use Rattle.blocks.proofs.Blocks.{start_none, filled, split-is, not-all, all-behind, behind-more}
@@ -99,9 +97,6 @@ module _ {X : Type 0} (W : ℕ) (laid : List ℤ → List X) (more : (xs ys : Li
     pub written-length : length out ≡ length old
     written-length = ap length w.written ∙ length_over (laid (each_block g file w.done)) old (omega (arith, laid-each w.done, places w.done w.few))
 
-    pub to-inside : to ≤ length out
-    to-inside = omega (arith, w.here, places w.done w.few, written-length)
-
     -- nothing begins there: all are written
     pub written_all : (StartsWhole rest → ⊥) → out ≡ over (laid (each_block g file (blocks file))) old
     written_all no-more = w.written ∙ ap (λ (n : ℕ). over (laid (each_block g file n)) old) (all-behind file w.done (filled file good) w.few (subst (λ (l : List ℕ). StartsWhole l → ⊥) w.left no-more))
@@ -113,9 +108,6 @@ module _ {X : Type 0} (W : ℕ) (laid : List ℤ → List X) (more : (xs ys : Li
 
       is-block : terms ≡ block file w.done
       is-block = split.first ∙ ap (λ (l : List ℕ). take (4 * term_count l 0) (drop 2 l)) w.left ∙ split-is file w.done
-
-      pub terms-short : length terms ≤ 4 * most_terms
-      terms-short = omega (arith, ap length split.first, length-take (4 * term_count rest 0) (drop 2 rest), s.short)
 
       -- there is room for its result
       pub space : to + W * size ≤ length out

@@ -24,6 +24,8 @@ pub fn write_results<E: Entry>(netlist: &Netlist, file: &[u8], out: &mut [E])
         sets: Some(&sets),
     };
     let each = E::WIDTH * result::result_size(netlist.size);
+    // An iterator over the blocks would say no more than `split_block` does. The place is counted: where `out` is what `split_at_mut` left instead, no invariant
+    // names the results before it.
     let mut rest = file;
     let mut to = 0;
     while let Some((block, after)) = split_block(rest) {

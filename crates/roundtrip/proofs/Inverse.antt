@@ -30,8 +30,8 @@ use Rattle.netlist.specs.Netlist.{sized}
 use Rattle.reader.specs.File.{header_widths, header_fields, colours_in, channels_in, components_in, bad_row, bad_record, first_bad_row, first_bad_record, record_tests, wire_tests}
 use Rattle.reader.specs.Reading.{reading}
 use Rattle.reader.specs.Stages.{header_read}
-use Rattle.reader.proofs.Accepted.{accepted-header, accepted-size, accepted-records, accepted-long}
-use Rattle.reader.proofs.Tests.{wrong_range, is_right, colours-lt, channels-lt}
+use Rattle.reader.proofs.Accepted.{accepted-header, accepted-size, accepted-records, accepted_long}
+use Rattle.reader.proofs.Tests.{wrong_range, is_right, colours_lt, channels-lt}
 use Rattle.reader.proofs.Facts.{HeaderFacts, reading-rest, records-accepted, good-records}
 use Rattle.fabric.specs.PackedFile.{header_bytes, packed_file}
 use Rattle.fabric.specs.Stages.{table_verdict}
@@ -127,7 +127,7 @@ module _ (C M N : ℕ) (t : List ℕ) (i : Inside C M N) (long : length t ≡ ro
       let c : C - 1 + 1 ≡ C = omega (arith, i.some_colours) in
       let e₂ : wrong_range h ≡ false = rw (ne_eqb N 0 (λ q. absurd (omega (arith, i.some_rows))), le-ltb most_components N i.few_rows, ne_eqb M 0 (λ q. absurd (omega (arith, i.some_channels)))) in
       let head : header_read (header_fields f) f ≡ Ok (sized C M N) =
-      ap (λ (l : List ℕ). header_read l f) header-back ∙ sym (is_right h f refl e₂ length-packed 0 (sym sum_back) refl) ∙ ap (λ (x : ℕ). Ok (sized x M N)) c in
+      ap (λ (l : List ℕ). header_read l f) header-back ∙ is_right h f refl e₂ length-packed sum_back ∙ ap (λ (x : ℕ). Ok (sized x M N)) c in
       let tests : first_refusal (record_tests C M f t N) ≡ (Ok tt) = rw first-same verdict in
       reading-rest f (omega (arith, length-packed)) (sized C M N) head ∙ rw (table-back, tests)
 
@@ -140,14 +140,14 @@ module _ (f : List ℕ) (C M N : ℕ) (byte : (k : ℕ) → get_or f k 0 < 256) 
   counts = accepted-size f e
 
   pub file-long : length f ≡ file_size N
-  file-long = (accepted-long f e).0
+  file-long = (accepted_long f e).0
 
   pub inside_back : Inside C M N
   inside_back =
       let a : colours_in (header_fields f) ≡ C = counts.0 in
       let b : channels_in (header_fields f) ≡ M = counts.1 in
       let c : components_in (header_fields f) ≡ N = counts.2 in
-      let p = colours-lt f in
+      let p = colours_lt f in
       let q = channels-lt f in
       record {
         some_rows = omega (arith, facts.some_rows);

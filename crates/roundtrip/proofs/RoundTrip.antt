@@ -20,7 +20,7 @@ use Rattle.fabric.specs.PackedFile.{packed_file}
 use Rattle.fabric.specs.Calls.{unpacked, packed}
 use Rattle.refusals.proofs.Room.{room-given}
 use Rattle.fabric.proofs.Unpacked.{unpacked-fabric, table_of}
-use Rattle.fabric.proofs.Writing.{outside, Inside, judged-room, PackFacts, pack-accepted, file-of}
+use Rattle.fabric.proofs.Writing.{outside, Inside, judged_room, PackFacts, pack-accepted, file-of}
 use Rattle.roundtrip.specs.RoundTrip.{Bytes, file_of, RoundTripFile, RoundTripTable, WrittenAccepted, OneFile, OneTable}
 use Rattle.roundtrip.proofs.Inverse.{reading-back, table-back, file-back, file-long, inside_back, verdict-back}
 
@@ -85,8 +85,8 @@ round_trip_file f byte C M N e space h =
     let l = file-long f C M N byte e in
     let room : file_size (length t / row_size) ≤ length space = omega arith in
     let p : (Ok tt) ≡ packed C M t (length space) =
-    sym (room-given (length space) (file_size (length t / row_size)) room)
-    ∙ judged-room C M t (length space) (omega (arith, length-rows f N)) (rw n (not-outside C M N (inside_back f C M N byte e))) (rw n (sym (verdict-back f C M N byte e))) in
+    judged_room C M t (length space) (omega (arith, length-rows f N)) (rw n (not-outside C M N (inside_back f C M N byte e))) (rw n (sym (verdict-back f C M N byte e)))
+    (sym (room-given (length space) (file_size (length t / row_size)) room)) in
     let q : file_size (length t / row_size) ≡ length f = omega arith in
     (sym p, sym (file-of C M t space (Ok tt) p) ∙ ap₂ (λ (x : List ℕ) (k : ℕ). x ++ drop k space) (ap (packed_file C M t) n ∙ file-back f C M N byte e) q)
 

@@ -6,10 +6,10 @@ use Rattle.component.specs.declared.kinds.Kind.{Kind}
 use Rattle.component.specs.declared.kinds.Kind.TheVariants.{Source, Sink, Queue, Function, Fork, Join, Switch, Merge}
 use Rattle.component.specs.declared.kinds.Port.{Port}
 use Rattle.component.specs.declared.kinds.Port.TheVariants.{A, B, C}
-use Rattle.component.specs.Kind.{port_use, is_used}
+use Rattle.component.specs.Kind.{port_use, is_used, is_output}
 use Rattle.wiring.specs.Signals.{Near, offer_a, offer_b, take_b, take_c, depends_on, has}
 use Rattle.rules.specs.Rules.{Component, rule}
-use Rattle.rules.specs.Seen.{named, rule_named}
+use Rattle.rules.specs.Seen.{named, rule_named, gives_offer}
 
 pub reads_only : (k : Kind) (p : Port) (c : Component) (v w : Near → ℕ) → ((n : Near) → has (depends_on k p) n ≡ true → v n ≡ w n) → rule k p c v ≡ rule k p c w
 unfolding rule depends_on
@@ -65,3 +65,31 @@ rule_of_name Switch C u = refl
 rule_of_name Merge A u = refl
 rule_of_name Merge B u = refl
 rule_of_name Merge C u = refl
+
+-- at an output port it gives an offer, at an input port a take
+pub offer_of_name : (k : Kind) (p : Port) → is_used (port_use k p) ≡ true → gives_offer (named k p) ≡ is_output (port_use k p)
+unfolding port_use
+offer_of_name Source A u = refl
+offer_of_name Source B u = absurd (false≢true u)
+offer_of_name Source C u = absurd (false≢true u)
+offer_of_name Sink A u = refl
+offer_of_name Sink B u = absurd (false≢true u)
+offer_of_name Sink C u = absurd (false≢true u)
+offer_of_name Queue A u = refl
+offer_of_name Queue B u = refl
+offer_of_name Queue C u = absurd (false≢true u)
+offer_of_name Function A u = refl
+offer_of_name Function B u = refl
+offer_of_name Function C u = absurd (false≢true u)
+offer_of_name Fork A u = refl
+offer_of_name Fork B u = refl
+offer_of_name Fork C u = refl
+offer_of_name Join A u = refl
+offer_of_name Join B u = refl
+offer_of_name Join C u = refl
+offer_of_name Switch A u = refl
+offer_of_name Switch B u = refl
+offer_of_name Switch C u = refl
+offer_of_name Merge A u = refl
+offer_of_name Merge B u = refl
+offer_of_name Merge C u = refl

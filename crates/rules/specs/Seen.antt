@@ -1,5 +1,5 @@
 -- How the code hands a rule the signals that it reads, and what it answers at an output and at an input port.
-use Rattle.std.specs.Prelude.{◌≡◌, true, ℕ}
+use Rattle.std.specs.Prelude.{◌≡◌, Bool, true, false, ℕ}
 use Rattle.component.specs.declared.kinds.Kind.{Kind}
 use Rattle.component.specs.declared.kinds.Kind.TheVariants.{Source, Sink, Queue, Function, Fork, Join, Switch, Merge}
 use Rattle.component.specs.declared.kinds.Port.{Port}
@@ -59,6 +59,27 @@ rule_named SwitchOfferC = rule Switch C
 rule_named MergeTakeA = rule Merge A
 rule_named MergeTakeB = rule Merge B
 rule_named MergeOffer = rule Merge C
+
+-- whether a rule gives an offer; else it gives a take
+abbrev pub gives_offer : Rule → Bool
+gives_offer SourceOffer = true
+gives_offer SinkTake = false
+gives_offer QueueTake = false
+gives_offer QueueOffer = true
+gives_offer FunctionTake = false
+gives_offer FunctionOffer = true
+gives_offer ForkTake = false
+gives_offer ForkOfferB = true
+gives_offer ForkOfferC = true
+gives_offer JoinTakeA = false
+gives_offer JoinTakeB = false
+gives_offer JoinOffer = true
+gives_offer SwitchTake = false
+gives_offer SwitchOfferB = true
+gives_offer SwitchOfferC = true
+gives_offer MergeTakeA = false
+gives_offer MergeTakeB = false
+gives_offer MergeOffer = true
 
 abbrev pub Offers : Kind → Port → Component → (Near → ℕ) → ℕ → Type 0
 Offers k port c v r = is_output (port_use k port) ≡ true → r ≡ rule k port c v

@@ -18,7 +18,7 @@ use component::{Map, Port, Table};
 use held::{HeldMerge, HeldSink, HeldSource, Offer, Pick};
 pub use rule::Rule;
 
-/// The offer with its colour mapped, by a map of row `k`. The entry is read before it is decided on.
+/// The offer with its colour mapped, by a map of row `k`. The entry is read before it is decided on: what is offered is close to random, and a read that waits for a branch on it waits for a misprediction.
 pub fn map_from(table: &Table, k: usize, map: Map, offer: Offer) -> Offer
     requires { k < table.now.rows }
     ensures { offer_number result ≡ mapped (map_of map (row table.now.bytes.now k)) (offer_number offer) }
@@ -46,7 +46,7 @@ fn to_b(table: &Table, k: usize, offer: Offer) -> bool
     }
 }
 
-// A merge's pick, true for B, from its bytes.
+// A merge's pick, true for B, from its bytes. What a component holds is made of its byte 0 in place, here and below: it is a literal of one field.
 #[tactic(auto, using(held::proofs::Picks::picks_read))]
 fn picks_b(cell: &[u8; CELL_SIZE], choice: u8, a: Offer, b: Offer) -> bool
     ensures { bit result ≡ picks_b (get_or cell.now 0 0) choice (offer_number a) (offer_number b) }
@@ -152,12 +152,16 @@ pub fn switch_take(table: &Table, k: usize, a: Offer, bt: bool, ct: bool) -> boo
     a.is_colour() & take
 }
 
-/// Merge: it offers the picked colour.
+/// Merge: it offers the picked colour. Its colour is read on its own: the whole offer is two bytes that were stored one by one, and a read of both at once waits for the stores.
 #[tactic(auto, using(held::proofs::Values::numbers), unfolding(crate::specs::Rules::rule, component::specs::Kind::port_use))]
 pub fn merge_offer(cell: &[u8; CELL_SIZE], choice: u8, a: Offer, b: Offer) -> Offer
     ensures { (w : List ℕ) (tb tc : ℕ) → offer_number result ≡ rule Merge C (component_with w cell.now choice) (seen (offer_number a) (offer_number b) tb tc) }
 {
-    if picks_b(cell, choice, a, b) { b } else { a }
+    let picks_b = picks_b(cell, choice, a, b);
+    match b {
+        Offer::Colour(colour) if picks_b => Offer::Colour(colour),
+        _ => a.only_if(!picks_b),
+    }
 }
 
 /// Merge: an input is taken if picked, offered and the output takes.

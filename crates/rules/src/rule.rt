@@ -28,32 +28,16 @@ pub enum Rule {
     MergeOffer,
 }
 
-// A line a kind, a rule a port. A table and no `match`: a plan looks up some 300 of them, and jumps on kind and port are mispredicted.
-const RULES: [Rule; 24] = [
-    Rule::SourceOffer,
-    Rule::SourceOffer,
-    Rule::SourceOffer,
-    Rule::SinkTake,
-    Rule::SinkTake,
-    Rule::SinkTake,
-    Rule::QueueTake,
-    Rule::QueueOffer,
-    Rule::QueueOffer,
-    Rule::FunctionTake,
-    Rule::FunctionOffer,
-    Rule::FunctionOffer,
-    Rule::ForkTake,
-    Rule::ForkOfferB,
-    Rule::ForkOfferC,
-    Rule::JoinTakeA,
-    Rule::JoinTakeB,
-    Rule::JoinOffer,
-    Rule::SwitchTake,
-    Rule::SwitchOfferB,
-    Rule::SwitchOfferC,
-    Rule::MergeTakeA,
-    Rule::MergeTakeB,
-    Rule::MergeOffer,
+// A row a kind, a rule a port. A table and no `match`: a plan looks up some 300 of them, and jumps on kind and port are mispredicted.
+const RULES: &[[Rule; 3]; 8] = &[
+    [Rule::SourceOffer, Rule::SourceOffer, Rule::SourceOffer],
+    [Rule::SinkTake, Rule::SinkTake, Rule::SinkTake],
+    [Rule::QueueTake, Rule::QueueOffer, Rule::QueueOffer],
+    [Rule::FunctionTake, Rule::FunctionOffer, Rule::FunctionOffer],
+    [Rule::ForkTake, Rule::ForkOfferB, Rule::ForkOfferC],
+    [Rule::JoinTakeA, Rule::JoinTakeB, Rule::JoinOffer],
+    [Rule::SwitchTake, Rule::SwitchOfferB, Rule::SwitchOfferC],
+    [Rule::MergeTakeA, Rule::MergeTakeB, Rule::MergeOffer],
 ];
 
 impl Rule {
@@ -61,6 +45,6 @@ impl Rule {
     pub fn at(kind: Kind, port: Port) -> Rule
         ensures { result ≡ named kind port }
     {
-        RULES[3 * kind as usize + port as usize]
+        RULES[kind as usize][port as usize]
     }
 }

@@ -1,6 +1,6 @@
 -- Laws of the lowest number that passes a test, if there is one. Assumes nothing.
-use Rattle.std.proofs.Common.{◌≡◌, ℕ, ◌<◌, Bool, true, false, Some, None, unwrap_or, is_some, sym, ap, ◌∙◌, arith}
-use Rattle.digits.specs.Least.{least, some}
+use Rattle.std.proofs.Common.{◌≡◌, ℕ, ◌<◌, Bool, true, false, Some, None, unwrap_or, sym, ap, ◌∙◌, arith}
+use Rattle.digits.specs.Least.{least}
 use Rattle.digits.proofs.Least.{least_at, least-none, least-le, least-before, least-true, least-same}
 use Rattle.search.specs.First.{first}
 
@@ -35,12 +35,9 @@ module _ (test : ℕ → Bool) (n : ℕ) where
   pub none_passes : first test n ≡ None → (j : ℕ) → j < n → test j ≡ false
   none_passes e j h = least-before test n j (omega (arith, none_least e))
 
-  -- the least number, and whether some number passes, by what was found
+  -- the least number by what was found
   pub first_or_n : unwrap_or (first test n) n ≡ least test n
   first_or_n = grind (arith, least-le)
-
-  pub some_first : some n test ≡ is_some (first test n)
-  some_first = grind arith
 
 -- tests that agree below n
 pub first_same : (p q : ℕ → Bool) (n : ℕ) → ((j : ℕ) → j < n → p j ≡ q j) → first p n ≡ first q n

@@ -1,4 +1,5 @@
 pub mod Signals
 pub mod Channels
+pub mod Takes
 pub mod Found
 pub mod Moves

@@ -1,5 +1,5 @@
 -- All signals of a fabric in a state under choices, and what moves.
-use Rattle.std.specs.Prelude.{List, ℕ, zero, suc, ◌+◌, ◌*◌, ◌/◌, cond, get_or, eqb}
+use Rattle.std.specs.Prelude.{List, ℕ, zero, suc, ◌+◌, ◌*◌, ◌/◌, cond, not, get_or, eqb}
 use Rattle.digits.specs.UpTo.{up_to}
 use Rattle.order.specs.Values.{val}
 use Rattle.component.specs.declared.kinds.Port.{Port}
@@ -8,7 +8,8 @@ use Rattle.wiring.specs.Ends.{end_port}
 use Rattle.wiring.specs.Signals.{Near, signal_of, end_of}
 use Rattle.netlist.specs.Netlist.{Netlist, row_of}
 use Rattle.cells.specs.Cells.{cell}
-use Rattle.held.specs.Values.{when}
+use Rattle.held.specs.declared.Channel.{Channel}
+use Rattle.held.specs.Values.{offer_of, when}
 use Rattle.rules.specs.Rules.{Component, component_with, rule}
 
 abbrev pub component_at : Netlist → List ℕ → List ℕ → ℕ → Component
@@ -31,6 +32,10 @@ rule_of f state choices s v =
 -- the value of signal s: the rules applied 2M deep
 unfoldable pub value : Netlist → List ℕ → List ℕ → ℕ → ℕ
 value f state choices s = val (rule_of f state choices) 0 (2 * f.channels) s
+
+-- both signals of channel x, as a channel holds them
+unfoldable pub channel_of : Netlist → List ℕ → List ℕ → ℕ → Channel
+channel_of f state choices x = record { offer = offer_of (value f state choices (2 * x)); take = not (eqb (value f state choices (2 * x + 1)) 0) }
 
 -- the signals worked out one by one along the first i entries of an order; what is not worked out yet is 0
 unfoldable pub along : (ℕ → (ℕ → ℕ) → ℕ) → List ℕ → ℕ → ℕ → ℕ

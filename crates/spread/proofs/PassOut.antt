@@ -12,7 +12,6 @@ use lib.ListN.{length, get_or, set, length-set, get_or-append}
 use lib.Seq.{get_or-set_same, get_or-set_other, get_or-append_seam}
 use Rattle.std.proofs.lemmas.List.{length-append}
 use borrow.Author.Tests.{ltb-true, ltb-false, lt-ltb, eqb-true, eqb-false, not-true}
-use Rattle.digits.specs.Count.{count}
 use Rattle.digits.specs.Least.{some}
 use Rattle.digits.proofs.Bools.{and_both, and-false, both_true, or_left, or_right}
 use Rattle.digits.proofs.Count.{count-le, count-more, count-new}
@@ -29,7 +28,7 @@ use Rattle.reach.specs.Reaches.{Reaches}
 use Rattle.reach.specs.Rounds.{passed, passed_at}
 use Rattle.reach.proofs.Passed.{Among, passed-more}
 use Rattle.reach.proofs.Reaches.{passed-reaches, reaches-below}
-use Rattle.spread.specs.Spread.{IsSet, Below, in_bytes, Targets, grown_set, listed, Spreading, Waits, Covered, PassedOn}
+use Rattle.spread.specs.Spread.{IsSet, Below, in_bytes, Targets, grown_set, listed, Spreading, members, Waits, Covered, PassedOn}
 
 -- component k at its output port p, where more is what it lets out
 pub record Passing (f : Netlist) (targets : List ℕ) (next : ℕ) (sets list : List ℕ) (k : ℕ) (p : Port) (more : ℕ) : Type 0 where
@@ -148,10 +147,7 @@ module _ {f : Netlist} {targets sets list : List ℕ} {next k more : ℕ} {p : P
       go (no q) = subst (λ (w : ℕ). w < 256) (sym (off-x y q)) (h.spreading.small y)
 
   -- ---- how many members the sets have
-  members : List ℕ → ℕ
-  members s = count (λ v. in_bytes s (v / 8) (v % 8)) (8 * f.channels)
-
-  members-more : members sets ≤ members after
+  members-more : members f sets ≤ members f after
   unfolding members
   members-more = count-more (λ v. in_bytes sets (v / 8) (v % 8)) (λ v. in_bytes after (v / 8) (v % 8)) (8 * f.channels) (λ v l. grows (v / 8) (v % 8))
 
@@ -173,11 +169,11 @@ module _ {f : Netlist} {targets sets list : List ℕ} {next k more : ℕ} {p : P
       same : (d : ℕ) → d < 8 → has_colour (grown_set sets x more) d ≡ has_colour (get_or sets x 0) d
       same d l = has-or (get_or sets x 0) more d ∙ old (has_colour (get_or sets x 0) d) (has_colour more d) (some-none fresh 8 e d l)
 
-  members-new : (grown_set sets x more ≡ get_or sets x 0 → ⊥) → members sets < members after
+  members-new : (grown_set sets x more ≡ get_or sets x 0 → ⊥) → members f sets < members f after
   unfolding members fresh
   members-new ne = go (some 8 fresh) refl
     where
-      go : (b : Bool) → some 8 fresh ≡ b → members sets < members after
+      go : (b : Bool) → some 8 fresh ≡ b → members f sets < members f after
       go false e = absurd (ne (no-fresh e))
       go true e =
           let m = some_is fresh 8 e in
@@ -212,22 +208,22 @@ module _ {f : Netlist} {targets sets list : List ℕ} {next k more : ℕ} {p : P
         go true q false r a = later (ltb-false (get_or targets x 0) next r) a (ap length a)
         go false q c r a = old (eqb-true (grown_set sets x more) (get_or sets x 0) (not-false (eqb (grown_set sets x more) (get_or sets x 0)) q)) a (ap length a)
 
-    more-listed : length list ≤ length list'
-    more-listed = go way
+    paid : length list' + members f sets ≤ length list + members f after
+    paid = go way
       where
-        go : Way → length list ≤ length list'
-        go (put q l a b) = omega arith
-        go (later l a b) = omega arith
-        go (old q a b) = omega arith
+        go : Way → length list' + members f sets ≤ length list + members f after
+        go (put q l a b) = omega (arith, members-new (is-new true (both_true q refl)))
+        go (later l a b) = omega (arith, members-more)
+        go (old q a b) = omega (arith, members-more)
 
     -- who waited still waits
-    still-waits : (from j : ℕ) → Waits list from j → Waits list' from j
-    still-waits from j (i, lo, hi, e) = go way
+    still-waits : (j : ℕ) → Waits list j → Waits list' j
+    still-waits j (i, hi, e) = go way
       where
-        go : Way → Waits list' from j
-        go (put q l a b) = (i, lo, omega arith, ap (λ (w : List ℕ). get_or w i 0) a ∙ get_or-append list (get_or targets x 0 ∷ []) 0 i hi ∙ e)
-        go (later l a b) = (i, lo, omega arith, ap (λ (w : List ℕ). get_or w i 0) a ∙ e)
-        go (old q a b) = (i, lo, omega arith, ap (λ (w : List ℕ). get_or w i 0) a ∙ e)
+        go : Way → Waits list' j
+        go (put q l a b) = (i, omega arith, ap (λ (w : List ℕ). get_or w i 0) a ∙ get_or-append list (get_or targets x 0 ∷ []) 0 i hi ∙ e)
+        go (later l a b) = (i, omega arith, ap (λ (w : List ℕ). get_or w i 0) a ∙ e)
+        go (old q a b) = (i, omega arith, ap (λ (w : List ℕ). get_or w i 0) a ∙ e)
 
     -- what comes in at component j is as it was
     abbrev Same : ℕ → Port → Type 0
@@ -237,7 +233,7 @@ module _ {f : Netlist} {targets sets list : List ℕ} {next k more : ℕ} {p : P
     Quiet j = (q : Port) → Same j q
 
     -- or it waits
-    quiet-or-waits : (j : ℕ) → j < next → Quiet j ⊎ ((from : ℕ) → from ≤ length list → Waits list' from j)
+    quiet-or-waits : (j : ℕ) → j < next → Quiet j ⊎ Waits list' j
     quiet-or-waits j l = go way
       where
         row : List ℕ
@@ -257,9 +253,9 @@ module _ {f : Netlist} {targets sets list : List ℕ} {next k more : ℕ} {p : P
         takes : (q : Port) → is_input (port_use (kind row) q) ≡ true → port row q ≡ x → get_or targets x 0 ≡ j
         takes q i e = ap (λ (w : ℕ). get_or targets w 0) (sym e) ∙ h.targeted.at j (omega (arith, l, h.within)) q i
 
-        here : not (eqb (grown_set sets x more) (get_or sets x 0)) ≡ true → get_or targets x 0 < next → list' ≡ list ++ get_or targets x 0 ∷ [] → length list' ≡ length list + 1 → get_or targets x 0 ≡ j → (from : ℕ) → from ≤ length list → Waits list' from j
-        here q g a b e from m =
-            (length list, m, omega arith, ap (λ (w : List ℕ). get_or w (length list) 0) a ∙ get_or-append_seam list (get_or targets x 0) [] 0 ∙ e)
+        here : not (eqb (grown_set sets x more) (get_or sets x 0)) ≡ true → get_or targets x 0 < next → list' ≡ list ++ get_or targets x 0 ∷ [] → length list' ≡ length list + 1 → get_or targets x 0 ≡ j → Waits list' j
+        here q g a b e =
+            (length list, omega arith, ap (λ (w : List ℕ). get_or w (length list) 0) a ∙ get_or-append_seam list (get_or targets x 0) [] 0 ∙ e)
 
         by-input : (q : Port) → Dec (port row q ≡ x) → Same j q ⊎ (get_or targets x 0 ≡ j)
         by-input q (no z) = inl (λ i. unread q z)
@@ -280,11 +276,11 @@ module _ {f : Netlist} {targets sets list : List ℕ} {next k more : ℕ} {p : P
             all B = b
             all C = c
 
-        or-here : Quiet j ⊎ (get_or targets x 0 ≡ j) → (get_or targets x 0 ≡ j → (from : ℕ) → from ≤ length list → Waits list' from j) → Quiet j ⊎ ((from : ℕ) → from ≤ length list → Waits list' from j)
+        or-here : Quiet j ⊎ (get_or targets x 0 ≡ j) → (get_or targets x 0 ≡ j → Waits list' j) → Quiet j ⊎ Waits list' j
         or-here (inl q) g = inl q
         or-here (inr e) g = inr (g e)
 
-        go : Way → Quiet j ⊎ ((from : ℕ) → from ≤ length list → Waits list' from j)
+        go : Way → Quiet j ⊎ Waits list' j
         go (old g a b) = inl (λ q i. same g q)
         go (put g m a b) = or-here (all-inputs (by-input A (ℕ_discrete (port row A) x)) (by-input B (ℕ_discrete (port row B) x)) (by-input C (ℕ_discrete (port row C) x))) (here g m a b)
         go (later m a b) = inl (λ q i. unread q (λ e. omega (arith, takes q i e)))
@@ -297,20 +293,20 @@ module _ {f : Netlist} {targets sets list : List ℕ} {next k more : ℕ} {p : P
         both_true z.0
         (passed-more f.colours r (in_bytes after (port r A)) (in_bytes after (port r B)) (in_bytes sets (port r A)) (in_bytes sets (port r B)) d (ltb-true d f.colours z.0) (kind r) q (quiet A) (quiet B) z.1)
 
-    keeps : (from j : ℕ) → from ≤ length list → j < next → (q : Port) → Covered f from sets list j q → Covered f from after list' j q
-    keeps from j l m q (inr w) = inr (still-waits from j w)
-    keeps from j l m q (inl o) = go (quiet-or-waits j m)
+    keeps : (j : ℕ) → j < next → (q : Port) → Covered f sets list j q → Covered f after list' j q
+    keeps j m q (inr w) = inr (still-waits j w)
+    keeps j m q (inl o) = go (quiet-or-waits j m)
       where
-        go : Quiet j ⊎ ((from : ℕ) → from ≤ length list → Waits list' from j) → Covered f from after list' j q
+        go : Quiet j ⊎ Waits list' j → Covered f after list' j q
         go (inl quiet) = inl (λ d e. grows (port (row_of f j) q) d (o d (quiet-passed j quiet q d e)))
-        go (inr w) = inr (w from l)
+        go (inr w) = inr w
 
-    covers : (from : ℕ) → from ≤ length list → Covered f from after list' k p
-    covers from l = go (quiet-or-waits k h.turn)
+    covers : Covered f after list' k p
+    covers = go (quiet-or-waits k h.turn)
       where
-        go : Quiet k ⊎ ((from : ℕ) → from ≤ length list → Waits list' from k) → Covered f from after list' k p
+        go : Quiet k ⊎ Waits list' k → Covered f after list' k p
         go (inl quiet) = inl (λ d e. passed-more-bits d (quiet-passed k quiet p d e))
-        go (inr w) = inr (w from l)
+        go (inr w) = inr w
 
     spread-on : Spreading f after list'
     unfolding members
@@ -322,7 +318,7 @@ module _ {f : Netlist} {targets sets list : List ℕ} {next k more : ℕ} {p : P
       named = names way;
     }
       where
-        enough : Way → length list' ≤ members after
+        enough : Way → length list' ≤ members f after
         enough (put q l a b) = omega (arith, members-new (is-new true (both_true q refl)), h.spreading.few)
         enough (later l a b) = omega (arith, members-more, h.spreading.few)
         enough (old q a b) = omega (arith, members-more, h.spreading.few)
@@ -342,8 +338,8 @@ module _ {f : Netlist} {targets sets list : List ℕ} {next k more : ℕ} {p : P
         subst (λ (s : List ℕ). PassedOn f next sets list s list' (λ q. q ≡ p) k) (sym es)
         (record {
           spreading = spread-on;
-          onward = record { more = more-listed; keeps = keeps };
-          covers = λ from l q e. subst (λ (w : Port). Covered f from after list' k w) (sym e) (covers from l);
+          onward = record { paid = paid; keeps = keeps };
+          covers = λ q e. subst (λ (w : Port). Covered f after list' k w) (sym e) covers;
         })
 
   -- ---- with the channel as the code reads it

@@ -2,12 +2,15 @@
 use mathlib.Core.Path.{◌≡◌, sym, ap, subst, ◌∙◌}
 use mathlib.Core.Logic.{inl, inr}
 use mathlib.Core.Bool.{Bool, ◌&&◌, true≢false}
-use mathlib.Core.List.{List, []}
-use Prim.Native.Nat.{ℕ, ◌+◌, ◌≤◌, ◌<◌}
+use mathlib.Core.List.{List, [], ◌∷◌, ◌++◌}
+use Prim.Native.Nat.{ℕ, ◌+◌, ◌*◌, ◌-◌, ◌/◌, ◌%◌, ◌<◌}
 use native.Mathlib.Decide.{ℕ_discrete}
 use native.Mathlib.Omega.{arith}
 use lib.Dec.{ltb}
-use lib.ListN.{length, get_or, replicate, length-replicate}
+use lib.ListN.{length, get_or, replicate, length-replicate, get_or-append}
+use lib.Seq.{get_or-append_seam}
+use Rattle.std.proofs.lemmas.List.{length-append}
+use Rattle.digits.proofs.Count.{count-le}
 use borrow.Author.Tests.{lt-ltb}
 use Rattle.digits.proofs.Bools.{and-false}
 use Rattle.order.proofs.Zeros.{get_or-zeros}
@@ -20,7 +23,7 @@ use Rattle.reach.specs.Rounds.{reachable, Closed, set_byte}
 use Rattle.reach.specs.Known.{SetBytes}
 use Rattle.reach.proofs.Rounds.{sets-are}
 use Rattle.spread.proofs.PassOn.{OutputOf}
-use Rattle.spread.specs.Spread.{in_bytes, Spreading, Out, Covered, CoveredTo, PassedOn}
+use Rattle.spread.specs.Spread.{in_bytes, members, Spreading, Out, Covered, CoveredTo, Onward, PassedOn}
 
 -- no colours, and nobody on the list
 pub spread_none : (f : Netlist) {sets list : List ℕ} → sets ≡ replicate 256 0 → list ≡ [] → Spreading f sets list
@@ -35,42 +38,76 @@ spread_none f {sets} {list} e q = record {
     zero-at : (x : ℕ) → get_or sets x 0 ≡ 0
     zero-at x = ap (λ (l : List ℕ). get_or l x 0) e ∙ get_or-zeros 256 x
 
-pub cover-none : {f : Netlist} {sets list : List ℕ} → CoveredTo f 0 sets list 0
+pub cover-none : {f : Netlist} {sets list : List ℕ} → CoveredTo f sets list 0
 cover-none = record { covered = λ k l p o. absurd (omega arith) }
 
 -- one component more in the first round
-pub cover-next : {f : Netlist} {sets list sets' list' : List ℕ} {k : ℕ} → CoveredTo f 0 sets list k → PassedOn f (k + 1) sets list sets' list' ((λ q. OutputOf (kind (row_of f k)) q)) k → CoveredTo f 0 sets' list' (k + 1)
+pub cover-next : {f : Netlist} {sets list sets' list' : List ℕ} {k : ℕ} → CoveredTo f sets list k → PassedOn f (k + 1) sets list sets' list' ((λ q. OutputOf (kind (row_of f k)) q)) k → CoveredTo f sets' list' (k + 1)
 cover-next {f} {sets} {list} {sets'} {list'} {k} c h = record { covered = λ j l p o. by_place j l p o (ℕ_discrete j k) }
   where
-    by_place : (j : ℕ) → j < k + 1 → (p : Port) → OutputOf (kind (row_of f j)) p → Dec (j ≡ k) → Covered f 0 sets' list' j p
-    by_place j l p o (yes e) = subst (λ (m : ℕ). Covered f 0 sets' list' m p) (sym e) (h.covers 0 (omega arith) p (subst (λ (m : ℕ). OutputOf (kind (row_of f m)) p) e o))
-    by_place j l p o (no e) = h.onward.keeps 0 j (omega arith) l p (c.covered j (omega arith) p o)
+    by_place : (j : ℕ) → j < k + 1 → (p : Port) → OutputOf (kind (row_of f j)) p → Dec (j ≡ k) → Covered f sets' list' j p
+    by_place j l p o (yes e) = subst (λ (m : ℕ). Covered f sets' list' m p) (sym e) (h.covers p (subst (λ (m : ℕ). OutputOf (kind (row_of f m)) p) e o))
+    by_place j l p o (no e) = h.onward.keeps j l p (c.covered j (omega arith) p o)
 
--- one entry of the list
-pub cover-turn : {f : Netlist} {sets list sets' list' : List ℕ} {done k : ℕ} → done < length list → k ≡ get_or list done 0 → CoveredTo f done sets list f.components
-    → PassedOn f f.components sets list sets' list' ((λ q. OutputOf (kind (row_of f k)) q)) k → CoveredTo f (done + 1) sets' list' f.components
-cover-turn {f} {sets} {list} {sets'} {list'} {done} {k} low at c h = record { covered = λ j l p o. by_place j l p o (ℕ_discrete j k) }
-  where
-    later : (j : ℕ) → (j ≡ k → ⊥) → (p : Port) → Covered f done sets list j p → Covered f (done + 1) sets list j p
-    later j ne p (inl o) = inl o
-    later j ne p (inr (i, lo, hi, e)) = go (ℕ_discrete i done)
+-- ---- the last entry is taken off the list
+pub record Popped (all list : List ℕ) (k : ℕ) : Type 0 where
+  pub items : all ≡ list ++ k ∷ []
+
+module _ {all list : List ℕ} {k : ℕ} (e : Popped all list k) where
+  longer : length all ≡ length list + 1
+  longer = ap length e.items ∙ length-append list (k ∷ [])
+
+  -- the others stand where they stood
+  kept : (i : ℕ) → i < length list → get_or all i 0 ≡ get_or list i 0
+  kept i l = ap (λ (w : List ℕ). get_or w i 0) e.items ∙ get_or-append list (k ∷ []) 0 i l
+
+  last : get_or all (length list) 0 ≡ k
+  last = ap (λ (w : List ℕ). get_or w (length list) 0) e.items ∙ get_or-append_seam list k [] 0
+
+  pub shorter : {f : Netlist} {sets : List ℕ} → Spreading f sets all → (k < f.components) × Spreading f sets list
+  shorter {f} {sets} s = (
+    subst (λ (j : ℕ). j < f.components) last (s.named (length list) (omega (arith, longer))),
+    record {
+      sets_long = s.sets_long;
+      small = s.small;
+      inside = s.inside;
+      few = omega (arith, s.few, longer);
+      named = λ i l. subst (λ (j : ℕ). j < f.components) (kept i l) (s.named i (omega (arith, longer)));
+    },
+  )
+
+  module _ {f : Netlist} {sets sets' list' : List ℕ} where
+    -- it has its turn
+    pub cover-turn : CoveredTo f sets all f.components → PassedOn f f.components sets list sets' list' ((λ q. OutputOf (kind (row_of f k)) q)) k → CoveredTo f sets' list' f.components
+    cover-turn c h = record { covered = λ j l p o. by_place j l p o (ℕ_discrete j k) }
       where
-        go : Dec (i ≡ done) → Covered f (done + 1) sets list j p
-        go (yes q) = absurd (ne (sym e ∙ ap (λ (m : ℕ). get_or list m 0) q ∙ sym at))
-        go (no q) = inr (i, omega arith, hi, e)
+        later : (j : ℕ) → (j ≡ k → ⊥) → (p : Port) → Covered f sets all j p → Covered f sets list j p
+        later j ne p (inl o) = inl o
+        later j ne p (inr (i, hi, at)) = go (ℕ_discrete i (length list))
+          where
+            go : Dec (i ≡ length list) → Covered f sets list j p
+            go (yes q) = absurd (ne (sym at ∙ ap (λ (m : ℕ). get_or all m 0) q ∙ last))
+            go (no q) =
+                let l : i < length list = omega (arith, longer) in
+                inr (i, l, sym (kept i l) ∙ at)
 
-    by_place : (j : ℕ) → j < f.components → (p : Port) → OutputOf (kind (row_of f j)) p → Dec (j ≡ k) → Covered f (done + 1) sets' list' j p
-    by_place j l p o (yes e) = subst (λ (m : ℕ). Covered f (done + 1) sets' list' m p) (sym e) (h.covers (done + 1) (omega arith) p (subst (λ (m : ℕ). OutputOf (kind (row_of f m)) p) e o))
-    by_place j l p o (no e) = h.onward.keeps (done + 1) j (omega arith) l p (later j e p (c.covered j l p o))
+        by_place : (j : ℕ) → j < f.components → (p : Port) → OutputOf (kind (row_of f j)) p → Dec (j ≡ k) → Covered f sets' list' j p
+        by_place j l p o (yes q) = subst (λ (m : ℕ). Covered f sets' list' m p) (sym q) (h.covers p (subst (λ (m : ℕ). OutputOf (kind (row_of f m)) p) q o))
+        by_place j l p o (no q) = h.onward.keeps j l p (later j q p (c.covered j l p o))
+
+    -- and there is less to do than before
+    pub less-left : Onward f f.components sets list sets' list' → length list' + (8 * f.channels - members f sets') < length all + (8 * f.channels - members f sets)
+    unfolding members
+    less-left o = omega (arith, o.paid, longer, count-le (λ v. in_bytes sets' (v / 8) (v % 8)) (8 * f.channels))
 
 -- at the end of the list the sets are closed, so they are the smallest
-module _ {f : Netlist} {ends order : List ℕ} (a : AcceptedFabric f ends order) {sets list : List ℕ} {done : ℕ} (s : Spreading f sets list) (c : CoveredTo f done sets list f.components) (end : length list ≤ done) where
+module _ {f : Netlist} {ends order : List ℕ} (a : AcceptedFabric f ends order) {sets list : List ℕ} (s : Spreading f sets list) (c : CoveredTo f sets list f.components) (end : length list ≡ 0) where
   all-out : Closed f (in_bytes sets)
   all-out = record { closed = λ k l p o. go k p (c.covered k l p o) }
     where
-      go : (k : ℕ) (p : Port) → Covered f done sets list k p → Out f sets k p
+      go : (k : ℕ) (p : Port) → Covered f sets list k p → Out f sets k p
       go k p (inl o) = o
-      go k p (inr (i, lo, hi, e)) = absurd (omega arith)
+      go k p (inr (i, hi, e)) = absurd (omega arith)
 
   pub set-bytes : SetBytes f sets
   unfolding set_byte

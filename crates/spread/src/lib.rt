@@ -1,7 +1,7 @@
 // Works out the colours that can reach each channel, by a list of components that have to pass on what came in.
 #![tactic(auto)]
 
-ghost use Rattle.std.specs.Prelude.{◌≡◌, true, cond, [], ◌∷◌, ◌++◌, ◌&&◌, ◌||◌, ◌+◌, ◌≤◌, ◌<◌, eqb, ltb, length, get_or, set};
+ghost use Rattle.std.specs.Prelude.{◌≡◌, true, cond, [], ◌∷◌, ◌++◌, ◌&&◌, ◌||◌, ◌+◌, ◌≤◌, ◌<◌, eqb, ltb, length, get_or, set, None};
 ghost use Rattle.std.specs.Option.{ForSome};
 ghost use Rattle.record.specs.Table.{row};
 ghost use Rattle.component.specs.Kind.{port_use, is_output};
@@ -11,7 +11,7 @@ ghost use Rattle.netlist.specs.Netlist.{netlist_of};
 ghost use Rattle.netlist.specs.View.{facts_of};
 ghost use Rattle.reach.specs.Rounds.{image, passed};
 ghost use Rattle.reach.specs.Known.{SetBytes};
-ghost use Rattle.spread.specs.Spread.{IsSet, Below, MapBelow, Targets, grown_set, listed, Spreading, PassedOn};
+ghost use Rattle.spread.specs.Spread.{IsSet, Below, MapBelow, Targets, first_output, grown_set, listed, Spreading, PassedOn};
 
 use arrayvec::ArrayVec;
 use component::{Kind, MOST_FLOWS, Map, Port, Table};
@@ -26,6 +26,18 @@ pub struct ColouredNetlist<'a> {
     pub netlist: Netlist<'a>,
     pub sets: Option<&'a [u8]>,
     pub ghost known: { ForSome sets (λ bytes. SetBytes (netlist_of netlist.size netlist.table.bytes.now) bytes.now) },
+}
+
+/// A netlist whose sets are not worked out.
+impl<'a> From<Netlist<'a>> for ColouredNetlist<'a> {
+    ghost from_gives = { λ netlist coloured. (coloured.netlist ≡ netlist) × (coloured.sets ≡ None) };
+
+    fn from(netlist: Netlist<'a>) -> ColouredNetlist<'a> {
+        Self {
+            netlist,
+            sets: None,
+        }
+    }
 }
 
 // The set of one colour.
@@ -131,6 +143,18 @@ fn find_takers(netlist: &Netlist) -> [u8; SETS_SIZE]
     by_channel
 }
 
+// The first output port of a kind that has one. Forks and switches have C besides.
+#[tactic(auto, unfolding(crate::specs::Spread::first_output))]
+fn first_output(kind: Kind) -> Port
+    ensures { result ≡ first_output kind }
+{
+    match kind {
+        Kind::Source | Kind::Sink => Port::A,
+        Kind::Join | Kind::Merge => Port::C,
+        _ => Port::B,
+    }
+}
+
 // The sets while they are worked out, and the components that have to pass on what came in.
 #[derive(Drop)]
 struct Spread {
@@ -177,15 +201,13 @@ impl Spread {
         requires turn { (k < next) × (next ≤ takers.now.netlist.size.components) }
         ensures { PassedOn (facts_of takers.now.netlist) next self.old.sets self.old.waiting.items self.new.sets self.new.waiting.items (λ q. is_output (port_use (kind (row takers.now.netlist.table.bytes.now k)) q) ≡ true) k }
     {
-        match takers.netlist.table.kind(k) {
-            Kind::Source => self.pass_out(takers, k, Port::A, next),
-            Kind::Sink => {}
-            Kind::Queue | Kind::Function => self.pass_out(takers, k, Port::B, next),
-            Kind::Join | Kind::Merge => self.pass_out(takers, k, Port::C, next),
-            Kind::Fork | Kind::Switch => {
-                self.pass_out(takers, k, Port::B, next);
-                self.pass_out(takers, k, Port::C, next);
-            }
+        let kind = takers.netlist.table.kind(k);
+        if let Kind::Sink = kind {
+            return;
+        }
+        self.pass_out(takers, k, first_output(kind), next);
+        if let Kind::Fork | Kind::Switch = kind {
+            self.pass_out(takers, k, Port::C, next);
         }
     }
 }
@@ -206,11 +228,8 @@ pub fn work_out(netlist: &Netlist) -> [u8; SETS_SIZE]
     for k in 0..netlist.size.components {
         spread.pass_on(&takers, k, k + 1);
     }
-    let mut done = 0;
-    while let Some(k) = spread.waiting.as_slice().get(done) {
-        let k = *k as usize;
-        spread.pass_on(&takers, k, netlist.size.components);
-        done += 1;
+    while let Some(k) = spread.waiting.pop() {
+        spread.pass_on(&takers, k as usize, netlist.size.components);
     }
     spread.sets
 }

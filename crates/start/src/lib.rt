@@ -5,16 +5,16 @@ ghost use Rattle.std.specs.Prelude.{◌≡◌, ◌≤◌, ◌<◌, length};
 ghost use Rattle.component.specs.declared.kinds.Kind.TheVariants.{Queue};
 ghost use Rattle.record.specs.Table.{row};
 ghost use Rattle.component.specs.Row.{kind, filling};
-ghost use Rattle.netlist.specs.Netlist.{netlist_of};
+ghost use Rattle.netlist.specs.View.{drawn};
 ghost use Rattle.cells.specs.Cells.{cell_size};
 ghost use Rattle.cells.specs.Start.{start_cell, started};
 ghost use Rattle.start.specs.Startable.{Startable};
 
 use cells::CELL_SIZE;
 use component::{Kind, Table};
-use netlist::Size;
+use netlist::Draft;
 
-// Writes a component's bytes at start: a queue's filling, and nothing held.
+// Writes a component's bytes at start: a queue's filling, and nothing held. The cell is a part of lent bytes, as in `state::update`.
 #[tactic(auto, unfolding(cells::specs::Start::start_cell, cells::specs::Cells::cell_with))]
 fn start_cell(table: &Table, k: usize, cell: &mut [u8])
     requires row { k < table.now.rows }
@@ -31,13 +31,12 @@ fn start_cell(table: &Table, k: usize, cell: &mut [u8])
 }
 
 /// Writes the state at start, 64 bytes for each component. Memory past it keeps its bytes.
-pub fn write_start(table: &Table, size: Size, state: &mut [u8])
-    requires rows { size.components ≤ table.now.rows }
-    requires start { Startable table.now.bytes.now size.components state.old }
-    ensures { state.new ≡ started (netlist_of size table.now.bytes.now) state.old }
+pub fn write_start(draft: &Draft, state: &mut [u8])
+    requires start { Startable draft.now.table.bytes.now draft.now.size.components state.old }
+    ensures { state.new ≡ started (drawn draft.now) state.old }
 {
-    for k in 0..size.components {
+    for k in 0..draft.size.components {
         let at = CELL_SIZE * k;
-        start_cell(table, k, &mut state[at..at + CELL_SIZE]);
+        start_cell(&draft.table, k, &mut state[at..at + CELL_SIZE]);
     }
 }

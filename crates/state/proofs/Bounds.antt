@@ -97,5 +97,4 @@ module _ (f : Netlist) (ends order state choices : List ℕ) (t : CanStep f ends
     planned = p;
     states = t.good.long;
     chosen = t.allowed.long;
-    small = λ s h. omega (arith, value-le s h, t.accepted.few_colours);
   }

@@ -1,5 +1,5 @@
 -- The state after a step, component by component; from a good state under allowed choices it is good. Assumes nothing.
-use mathlib.Core.Path.{◌≡◌, refl, ap, fun_ext}
+use mathlib.Core.Path.{◌≡◌, refl, ap, fun_ext, ◌∙◌}
 use mathlib.Core.Bool.{true}
 use mathlib.Core.List.{List, [], ◌∷◌, ◌++◌}
 use Prim.Native.Nat.{ℕ, zero, suc, ◌+◌, ◌*◌, ◌≤◌, ◌<◌}
@@ -24,8 +24,11 @@ use Rattle.held.specs.Values.{when, unless, offered, or_else}
 use Rattle.held.specs.Picks.{picks_b}
 use Rattle.held.proofs.Bounds.{when-le, unless-le, offered-le}
 use Rattle.held.proofs.Picks.{picks-le}
-use Rattle.signals.specs.Signals.{component_at, value, moved}
-use Rattle.signals.proofs.Moves.{signal-is}
+use Rattle.held.specs.declared.Channel.{Channel}
+use Rattle.signals.specs.Signals.{component_at, value, channel_of, moved}
+use Rattle.signals.specs.Channels.{signal_in}
+use Rattle.signals.proofs.Channels.{offer_at, take_at}
+use Rattle.signals.proofs.Moves.{offer-is, take-is}
 use Rattle.state.specs.Step.{dropped, appended, cell_next, offer_of, take_of, next_at, state_next, next, CanStep}
 use Rattle.state.proofs.Bounds.{moved-le}
 use Rattle.state.proofs.Transfers.{source-offers, sink-takes}
@@ -39,16 +42,16 @@ held-long : (s : List ℕ) (b : ℕ) → length s ≡ cell_size → length (b �
 held-long s b h = simp length-drop (omega arith)
 
 module _ (f : Netlist) (ends order state choices : List ℕ) (t : CanStep f ends order state choices) where
-  -- from the signals in memory, whatever stands behind them
-  pub next-from : (signals rest : List ℕ) → signals ≡ up_to (2 * f.channels) (value f state choices) ++ rest → state_next f state choices (λ s. get_or signals s 0) ≡ next f state choices
+  -- from the channels in memory, whatever stands behind them
+  pub next-from : (channels rest : List Channel) → channels ≡ up_to f.channels (channel_of f state choices) ++ rest → state_next f state choices (signal_in channels) ≡ next f state choices
   unfolding next state_next next_at
-  next-from signals rest e = ap (λ (l : List ℕ). l ++ drop (cell_size * f.components) state) (cells_same _ _ f.components same)
+  next-from channels rest e = ap (λ (l : List ℕ). l ++ drop (cell_size * f.components) state) (cells_same _ _ f.components same)
     where
-      same : (k : ℕ) → k < f.components → next_at f state choices (λ s. get_or signals s 0) k ≡ next_at f state choices (value f state choices) k
+      same : (k : ℕ) → k < f.components → next_at f state choices (signal_in channels) k ≡ next_at f state choices (value f state choices) k
       same k h =
-          let i = signal-is f state choices signals rest e in
-          let o : offer_of (row_of f k) (λ s. get_or signals s 0) ≡ offer_of (row_of f k) (value f state choices) = fun_ext (λ p. i _ (omega (arith, (t.accepted.rows k h).ports p))) in
-          let g : take_of (row_of f k) (λ s. get_or signals s 0) ≡ take_of (row_of f k) (value f state choices) = fun_ext (λ p. i _ (omega (arith, (t.accepted.rows k h).ports p))) in
+          let inside = (t.accepted.rows k h).ports in
+          let o : offer_of (row_of f k) (signal_in channels) ≡ offer_of (row_of f k) (value f state choices) = fun_ext (λ p. offer_at channels _ ∙ offer-is f state choices channels rest e _ (inside p)) in
+          let g : take_of (row_of f k) (signal_in channels) ≡ take_of (row_of f k) (value f state choices) = fun_ext (λ p. take_at channels _ ∙ take-is f state choices channels rest e ends order t.accepted _ (inside p)) in
           rw (o, g)
 
   -- a queue's colours after the step are at most 63

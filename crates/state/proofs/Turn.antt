@@ -2,7 +2,7 @@
 use mathlib.Core.Path.{◌≡◌, refl}
 use mathlib.Core.List.{List, [], ◌∷◌}
 use mathlib.Core.Logic.{◌⊎◌, inl, inr}
-use Prim.Native.Nat.{ℕ, zero, suc, ◌≤◌, ◌<◌}
+use Prim.Native.Nat.{ℕ, ◌<◌}
 use native.Mathlib.Omega.{arith}
 use lib.ListN.{length, drop, set}
 use Rattle.component.specs.declared.kinds.Kind.{Kind}
@@ -10,27 +10,10 @@ use Rattle.component.specs.declared.kinds.Kind.TheVariants.{Function, Fork, Join
 use Rattle.component.specs.declared.kinds.Port.{Port}
 use Rattle.rules.specs.Rules.{Component}
 use Rattle.state.specs.Step.{cell_next}
-use Rattle.held.specs.Values.{when, unless, offered}
-use Rattle.signals.proofs.Channels.{flag_is}
 
 pub set_first : (q : List ℕ) (v : ℕ) → 0 < length q → set q 0 v ≡ v ∷ drop 1 q
 set_first [] v h = absurd (omega arith)
 set_first (x ∷ q) v h = refl
-
-unless-offered : (m v : ℕ) → unless (offered m) v ≡ unless m v
-unless-offered zero v = refl
-unless-offered (suc m) v = refl
-
--- what a source and a sink hold, from a channel's signals as they are read: its offer, and its take as a flag
-pub source-holds : {offer taken : ℕ} (o t : ℕ) → offer ≡ o → taken ≡ offered t → unless taken offer ≡ unless t o
-source-holds o t p q = rw (p, q) (unless-offered t o)
-
-pub sink-holds : {offer taken : ℕ} (o t : ℕ) → t ≤ 1 → offer ≡ o → taken ≡ offered t → unless (offered offer) taken ≡ unless (offered o) t
-sink-holds o t h p q = rw (p, q, flag_is t h)
-
--- what a merge holds, where g is its pick
-pub merge-holds : {offer taken : ℕ} (o t g : ℕ) → offer ≡ o → taken ≡ offered t → unless taken (when offer g) ≡ unless t (when o g)
-merge-holds o t g p q = rw (p, q) (unless-offered t (when o g))
 
 -- function, fork, join and switch keep their bytes
 pub cell-kept : {k : Kind} (c : Component) (o t : Port → ℕ) → (k ≡ Function) ⊎ ((k ≡ Fork) ⊎ ((k ≡ Join) ⊎ (k ≡ Switch))) → c.cell ≡ cell_next k c o t

@@ -18,8 +18,11 @@ use Rattle.cells.proofs.Cells.{queue-count}
 use Rattle.cells.proofs.Good.{cell-long, queue-whole}
 use Rattle.held.specs.Values.{bit, when, offered}
 use Rattle.rules.specs.Rules.{rule}
-use Rattle.signals.specs.Signals.{value, moved}
-use Rattle.signals.proofs.Moves.{moved-is, all_there}
+use Rattle.held.specs.declared.Channel.{Channel}
+use Rattle.signals.specs.Signals.{value, channel_of, moved}
+use Rattle.signals.specs.Channels.{offer_in}
+use Rattle.signals.proofs.Moves.{long, offer-is, moved-is}
+use Rattle.state.proofs.Bounds.{value-le}
 use Rattle.state.specs.Step.{dropped, CanStep}
 use Rattle.state.specs.Updatable.{Moves, Movable, Updatable}
 use Rattle.state.proofs.Transfers.{out-moves, in-moves}
@@ -73,19 +76,23 @@ module _ (f : Netlist) (ends order state choices : List ℕ) (t : CanStep f ends
       few : length (dropped (moved f state choices (port (row_of f k) B)) (queue_colours (cell state k))) ≤ length (queue_colours (cell state k))
       few = dropped-le (moved f state choices (port (row_of f k) B)) (queue_colours (cell state k))
 
--- with the signals in memory, whatever stands behind them
-module _ (f : Netlist) (ends order state choices : List ℕ) (t : CanStep f ends order state choices) (signals rest : List ℕ) (e : signals ≡ up_to (2 * f.channels) (value f state choices) ++ rest) where
-  movable : (k : ℕ) → k < f.components → Movable f.table k (cell state k) signals
+-- with the channels in memory, whatever stands behind them
+module _ (f : Netlist) (ends order state choices : List ℕ) (t : CanStep f ends order state choices) (channels rest : List Channel) (e : channels ≡ up_to f.channels (channel_of f state choices) ++ rest) where
+  pub small : (x : ℕ) → x < f.channels → offer_in channels x ≤ 255
+  small x h = omega (arith, offer-is f state choices channels rest e x h, value-le f ends order state choices t (2 * x) (omega arith), t.accepted.few_colours)
+
+  movable : (k : ℕ) → k < f.components → Movable f.table k (cell state k) channels
   movable k h =
       let inside = (t.accepted.rows k h).ports in
-      let is = moved-is f state choices signals rest e in
+      let is = moved-is f state choices channels rest e in
       record {
         cells = cell-long state k f.components t.good.long h;
-        ports = λ p. all_there f state choices signals rest e ends order t.accepted (port (row_of f k) p) (inside p);
+        ports = λ p. omega (arith, inside p, long f state choices channels rest e);
+        small = λ p. small _ (inside p);
         queues = λ q. rw (is (port (row_of f k) A) (inside A), is (port (row_of f k) B) (inside B)) (queue-moves f ends order state choices t k h q);
       }
 
-  pub updatable : Updatable f.table f.components state signals
+  pub updatable : Updatable f.table f.components state channels
   updatable = record {
     few = t.accepted.few_rows;
     states = t.good.long;

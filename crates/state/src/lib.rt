@@ -3,20 +3,21 @@
 
 ghost use Rattle.std.specs.Prelude.{◌≡◌, ◌∷◌, suc, ◌+◌, ◌≤◌, ◌<◌, length, get_or, drop};
 ghost use Rattle.record.specs.Table.{row};
-ghost use Rattle.component.specs.Row.{kind};
-ghost use Rattle.netlist.specs.Netlist.{netlist_of};
+ghost use Rattle.component.specs.Row.{kind, port};
+ghost use Rattle.netlist.specs.View.{drawn};
 ghost use Rattle.cells.specs.Cells.{queue_colours, cell_with, Queue, cell_size};
 ghost use Rattle.held.specs.Values.{offer_number, bit, when, unless, offered};
 ghost use Rattle.held.specs.Picks.{picks_b};
 ghost use Rattle.rules.specs.Rules.{component_with};
-ghost use Rattle.state.specs.Step.{dropped, appended, cell_next, offer_of, take_of, state_next};
+ghost use Rattle.signals.specs.Channels.{no_channel, offer_in, take_in, signal_in};
+ghost use Rattle.state.specs.Step.{dropped, appended, cell_next, state_next};
 ghost use Rattle.state.specs.Updatable.{newest, Moves, Movable, Updatable};
 
 use cells::CELL_SIZE;
 use component::{Kind, Port, Table};
 use held::{Channel, HeldMerge, HeldSink, HeldSource, Offer, Pick};
-use netlist::Size;
-use signals::{channel_at, moved_on, offer_at};
+use netlist::Draft;
+use signals::moved_on;
 
 // The queue without its front.
 #[tactic(auto, using(crate::proofs::Queues::queues))]
@@ -49,7 +50,7 @@ fn colour_or(ma: u8, old: u8) -> u8
     if 0 < ma { ma - 1 } else { old }
 }
 
-// It appends what came in: without a branch, so that it takes the same time either way.
+// It appends what came in, without a branch: what comes in is close to random, and a branch on it is mispredicted as often as not.
 #[tactic(auto, using(crate::proofs::Queues::queues, held::proofs::Values::came_byte))]
 fn let_in(queue: &mut [u8], ma: u8)
     requires queue { Queue queue.old }
@@ -62,7 +63,8 @@ fn let_in(queue: &mut [u8], ma: u8)
     queue[0] = count;
 }
 
-// A queue after a step: it drops its front if its output moved, then appends what came in.
+// A queue after a step: it drops its front if its output moved, then appends what came in. What moves is a byte, as a step writes it; the bytes of a cell are lent and written one by one, so
+// that they are a queue's stays a clause.
 fn queue_next(queue: &mut [u8], ma: u8, mb: u8)
     requires { Moves queue.old ma mb }
     ensures { queue.new ≡ cell_with (appended ma (dropped mb (queue_colours queue.old))) }
@@ -71,7 +73,7 @@ fn queue_next(queue: &mut [u8], ma: u8, mb: u8)
     let_in(queue, ma);
 }
 
-// A source after a step: it holds its colour if it was offered and not taken.
+// A source after a step: it holds its colour if it was offered and not taken. What it holds is made of byte 0 in place, here and below: a literal of one field.
 #[tactic(auto, using(crate::proofs::Turn::set_first, held::proofs::Values::held_number))]
 fn source_next(cell: &mut [u8], channel: Channel)
     requires cell { length cell.old ≡ cell_size }
@@ -107,49 +109,57 @@ fn merge_next(cell: &mut [u8], choice: u8, a: Offer, b: Offer, output: Channel)
     cell[0] = u8::from(merge.next(choice, a, b, output).held);
 }
 
-// A component's bytes after a step, from its choice and the signals at its ports.
-fn cell_next(table: &Table, k: usize, cell: &mut [u8], choice: u8, signals: &[u8])
+// The channel at a port of component k.
+fn channel_at(table: &Table, k: usize, at: Port, channels: &[Channel]) -> Channel
     requires row { k < table.now.rows }
-    requires movable { Movable table.now.bytes.now k cell.old signals.now }
-    ensures { cell.new ≡ cell_next (kind (row table.now.bytes.now k)) (component_with (row table.now.bytes.now k) cell.old choice)
-        (offer_of (row table.now.bytes.now k) (λ s. get_or signals.now s 0)) (take_of (row table.now.bytes.now k) (λ s. get_or signals.now s 0)) }
+    requires inside { port (row table.now.bytes.now k) at < length channels.now }
+    ensures { result ≡ get_or channels.now (port (row table.now.bytes.now k) at) no_channel }
 {
-    let a = table.port(k, Port::A) as usize;
-    let b = table.port(k, Port::B) as usize;
+    channels[table.port(k, at) as usize]
+}
+
+// A component's bytes after a step, from its choice and the channels at its ports.
+#[tactic(auto, unfolding(crate::specs::Step::cell_next))]
+fn cell_next(table: &Table, k: usize, cell: &mut [u8], choice: u8, channels: &[Channel])
+    requires row { k < table.now.rows }
+    requires movable { Movable table.now.bytes.now k cell.old channels.now }
+    ensures { cell.new ≡ cell_next (kind (row table.now.bytes.now k)) (component_with (row table.now.bytes.now k) cell.old choice)
+        (λ p. offer_in channels.now (port (row table.now.bytes.now k) p)) (λ p. take_in channels.now (port (row table.now.bytes.now k) p)) }
+{
     match table.kind(k) {
-        Kind::Source => source_next(cell, channel_at(signals, a)),
-        Kind::Sink => sink_next(cell, channel_at(signals, a)),
-        Kind::Queue => queue_next(cell, moved_on(signals, a), moved_on(signals, b)),
+        Kind::Source => source_next(cell, channel_at(table, k, Port::A, channels)),
+        Kind::Sink => sink_next(cell, channel_at(table, k, Port::A, channels)),
+        Kind::Queue => {
+            let input = channel_at(table, k, Port::A, channels);
+            let output = channel_at(table, k, Port::B, channels);
+            queue_next(cell, moved_on(input), moved_on(output));
+        }
         Kind::Function | Kind::Fork | Kind::Join | Kind::Switch => {}
         Kind::Merge => {
-            let c = table.port(k, Port::C) as usize;
-            merge_next(
-                cell,
-                choice,
-                offer_at(signals, a),
-                offer_at(signals, b),
-                channel_at(signals, c),
-            );
+            let a = channel_at(table, k, Port::A, channels);
+            let b = channel_at(table, k, Port::B, channels);
+            let output = channel_at(table, k, Port::C, channels);
+            merge_next(cell, choice, a.offer, b.offer, output);
         }
     }
 }
 
-/// The state after a step, from the choices and the signals.
-pub fn update(table: &Table, size: Size, state: &mut [u8], choices: &[u8], signals: &[u8])
-    requires rows { size.components ≤ table.now.rows }
-    requires updatable { Updatable table.now.bytes.now size.components state.old signals.now }
-    requires choices { size.components ≤ length choices.now }
-    ensures { state.new ≡ state_next (netlist_of size table.now.bytes.now)
-        state.old choices.now (λ s. get_or signals.now s 0) }
+/// The state after a step, from the choices and the channels.
+// The state is bytes, 64 a component, as the memory that is lent through C; no `[u8; CELL_SIZE]` cells, since std's contract of
+// `as_chunks_mut` does not say what the slice holds once they are written, and a cell of a part comes out of an `Option`.
+pub fn update(draft: &Draft, state: &mut [u8], choices: &[u8], channels: &[Channel])
+    requires updatable { Updatable draft.now.table.bytes.now draft.now.size.components state.old channels.now }
+    requires choices { draft.now.size.components ≤ length choices.now }
+    ensures { state.new ≡ state_next (drawn draft.now) state.old choices.now (signal_in channels.now) }
 {
-    for k in 0..size.components {
+    for k in 0..draft.size.components {
         let at = CELL_SIZE * k;
         cell_next(
-            table,
+            &draft.table,
             k,
             &mut state[at..at + CELL_SIZE],
             choices[k],
-            signals,
+            channels,
         );
     }
 }

@@ -35,7 +35,7 @@ pub fn step_answer(file: &[u8], state: &[u8], choices: &[u8], space: usize) -> R
 {
     let mut buffers = Buffers::new();
     let netlist = buffers.read(file)?.netlist;
-    verdicts::step_verdict(&netlist.table, netlist.size, state, choices, space)
+    verdicts::step_verdict(&netlist.draft(), state, choices, space)
 }
 
 /// Takes a step: writes the state after it and what moved.
@@ -57,7 +57,7 @@ pub fn run_answer(file: &[u8], state: &[u8], choices: &[u8]) -> Result<(), Refus
 {
     let mut buffers = Buffers::new();
     let netlist = buffers.read(file)?.netlist;
-    verdicts::run_verdict(&netlist.table, netlist.size, state, choices)
+    verdicts::run_verdict(&netlist.draft(), state, choices)
 }
 
 /// Takes whole steps in a row, none included, where all their choices are allowed.

@@ -16,24 +16,32 @@ ghost use Rattle.verdicts.specs.Tests.{start_tests, step_tests, run_tests};
 ghost use Rattle.steps.specs.Steps.{after_steps};
 ghost use Rattle.steps.specs.Stages.{Along, Runs};
 
-use component::Table;
-use netlist::{Fabric, Netlist, Size};
+use component::{MOST_CHANNELS, Table};
+use held::{Channel, Offer};
+use netlist::{Draft, Fabric, Netlist, Size};
 use order::MOST_SIGNALS;
 use plan::Place;
 use refusals::Refusal;
 use rules::Rule;
 
-// What stands in a plan's memory before a place is laid there.
+// What stands in a plan's memory before a place is laid there: `plan::lay_out` writes places into lent memory.
 const NO_PLACE: Place = Place {
     rule: Rule::SourceOffer,
-    signal: 0,
+    channel: 0,
     component: 0,
     a: 0,
     b: 0,
     c: 0,
 };
 
+// What stands in memory before a channel's signals are worked out: that is in the plan's order and not in theirs, so all of them stand there first.
+const NO_CHANNEL: Channel = Channel {
+    offer: Offer::Nothing,
+    take: false,
+};
+
 /// Writes the state at start, if there is room for it; else 21.
+// A table and a size: a draft would ask for a row for each component even where the state has no room for them.
 pub fn start_fabric(table: &Table, size: Size, state: &mut [u8]) -> Result<(), Refusal>
     requires few { size.components ≤ most_components }
     requires startable { cell_size * size.components ≤ length state.old → Startable table.now.bytes.now size.components state.old }
@@ -42,27 +50,31 @@ pub fn start_fabric(table: &Table, size: Size, state: &mut [u8]) -> Result<(), R
     ensures state { state.new ≡ kept result (started (netlist_of size table.now.bytes.now) state.old) state.old }
 {
     verdicts::start_verdict(size, state.len())?;
-    start::write_start(table, size, state);
+    let draft = Draft {
+        size,
+        table: *table,
+    };
+    start::write_start(&draft, state);
     Ok(())
 }
 
-// Takes a step along a plan: works out the signals, and writes the state after it.
+// Takes a step along a plan: works out the channels, and writes the state after it.
 fn step_along(
     netlist: &Netlist,
     places: &[Place],
     state: &mut [u8],
     choices: &[u8],
-    signals: &mut [u8],
+    channels: &mut [Channel],
 )
     requires along { Along (facts_of netlist.now) places.now state.old choices.now }
-    requires room { 2 * netlist.now.size.channels ≤ length signals.old }
+    requires room { netlist.now.size.channels ≤ length channels.old }
     ensures state { state.new ≡ next (facts_of netlist.now) state.old choices.now }
-    ensures signals { signals.new ≡
-        up_to (2 * netlist.now.size.channels) (step.value (facts_of netlist.now) state.old choices.now)
-        ++ drop (2 * netlist.now.size.channels) signals.old }
+    ensures channels { channels.new ≡
+        up_to netlist.now.size.channels (step.channel_of (facts_of netlist.now) state.old choices.now)
+        ++ drop netlist.now.size.channels channels.old }
 {
-    signals::evaluate(netlist, places, state, choices, signals);
-    state::update(&netlist.table, netlist.size, state, choices, signals);
+    signals::evaluate(netlist, places, state, choices, channels);
+    state::update(&netlist.draft(), state, choices, channels);
 }
 
 // Takes one step, and writes what moved.
@@ -74,10 +86,10 @@ fn take_step(fabric: &Fabric, state: &mut [u8], choices: &[u8], moves: &mut [u8]
         step.moves (facts_of fabric.now.netlist) state.old choices.now ++ drop fabric.now.netlist.size.channels moves.old }
 {
     let mut places = [NO_PLACE; MOST_SIGNALS];
-    let mut signals = [0; MOST_SIGNALS];
+    let mut channels = [NO_CHANNEL; MOST_CHANNELS];
     plan::lay_out(fabric, &mut places);
-    step_along(&fabric.netlist, &places, state, choices, &mut signals);
-    signals::write_moves(&signals, fabric.netlist.size.channels, moves);
+    step_along(&fabric.netlist, &places, state, choices, &mut channels);
+    signals::write_moves(&channels, fabric.netlist.size.channels, moves);
 }
 
 /// Takes a step, if no test is met; else the first of 21, 22, 9, 10 and 23.
@@ -93,7 +105,7 @@ pub fn step_fabric(
         (step.moves (facts_of fabric.now.netlist) state.old choices.now ++ drop fabric.now.netlist.size.channels moves.old) moves.old }
 {
     let netlist = fabric.netlist;
-    verdicts::step_verdict(&netlist.table, netlist.size, state, choices, moves.len())?;
+    verdicts::step_verdict(&netlist.draft(), state, choices, moves.len())?;
     take_step(fabric, state, choices, moves);
     Ok(())
 }
@@ -105,10 +117,10 @@ fn run_steps(fabric: &Fabric, state: &mut [u8], choices: &[u8])
         (length choices.now / fabric.now.netlist.size.components) choices.now state.old }
 {
     let mut places = [NO_PLACE; MOST_SIGNALS];
-    let mut signals = [0; MOST_SIGNALS];
+    let mut channels = [NO_CHANNEL; MOST_CHANNELS];
     plan::lay_out(fabric, &mut places);
     for step in choices.chunks_exact(fabric.netlist.size.components) {
-        step_along(&fabric.netlist, &places, state, step, &mut signals);
+        step_along(&fabric.netlist, &places, state, step, &mut channels);
     }
 }
 
@@ -119,7 +131,7 @@ pub fn run_fabric(fabric: &Fabric, state: &mut [u8], choices: &[u8]) -> Result<(
         (length choices.now / fabric.now.netlist.size.components) choices.now state.old) state.old }
 {
     let netlist = fabric.netlist;
-    verdicts::run_verdict(&netlist.table, netlist.size, state, choices)?;
+    verdicts::run_verdict(&netlist.draft(), state, choices)?;
     run_steps(fabric, state, choices);
     Ok(())
 }

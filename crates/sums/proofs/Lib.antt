@@ -1,3 +1,2 @@
 pub mod Bounds
-pub mod Terms
 pub mod Sums

@@ -84,12 +84,12 @@ module _ (f : Netlist) (h : AcceptedNetlist f) (p : List ℕ) (k : ℕ) {q i : �
         ∙ ap (λ (x : ℕ). numbered f.colours (factor f x i) u) eq ∙ ap (λ (x : ℕ). numbered f.colours (factor f (component_of p k) x) u) ei)
 
     -- and its weight
-    pub term-counts : {w w' : List ℤ} {m : ℤ} (b : Bool) → m ≡ multiplier p k → b ≡ is_queue (kind (row_of f q)) → Grown most_entries w m (λ u. cond b (same (8 * q + i) u) (pos 0)) w'
-        → Grown most_entries w (multiplier p k) (count_factor f p k) w'
+    pub term-counts : {w w' : List ℤ} {m : ℤ} {v : ℕ} (b : Bool) → m ≡ multiplier p k → b ≡ is_queue (kind (row_of f q)) → Grown most_entries w m (λ u. cond b (same v u) (pos 0)) w'
+        → v ≡ 8 * q + i → Grown most_entries w (multiplier p k) (count_factor f p k) w'
     unfolding count_of
-    term-counts b em eb = grown-is em
-        (λ u n. ap (λ (x : Bool). cond x (same (8 * q + i) u) (pos 0)) (eb ∙ sym (ap (λ (x : Bool). x && is_queue (kind (row_of f q))) term-known))
-        ∙ ap (λ (x : ℕ). count_of f x i u) eq ∙ ap (λ (x : ℕ). count_of f (component_of p k) x u) ei)
+    term-counts b em eb g ev = grown-is em
+        (λ u n. ap (λ (x : ℕ). cond b (same x u) (pos 0)) ev ∙ ap (λ (x : Bool). cond x (same (8 * q + i) u) (pos 0)) (eb ∙ sym (ap (λ (x : Bool). x && is_queue (kind (row_of f q))) term-known))
+        ∙ ap (λ (x : ℕ). count_of f x i u) eq ∙ ap (λ (x : ℕ). count_of f (component_of p k) x u) ei) g
 
 -- ---- all terms
 module _ (f : Netlist) (h : AcceptedNetlist f) (p : List ℕ) where

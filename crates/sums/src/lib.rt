@@ -1,7 +1,7 @@
 // The sums of the flows and the weights of a proposal, filled term by term.
 #![tactic(auto)]
 
-ghost use Rattle.std.specs.Prelude.{◌≡◌, ◌+◌, ◌*◌, ◌≤◌, ◌<◌, ◌^◌, IfOk, length, pos, nat_abs};
+ghost use Rattle.std.specs.Prelude.{◌≡◌, ◌+◌, ◌*◌, ◌≤◌, ◌<◌, ◌%◌, ◌^◌, IfOk, length, pos, nat_abs};
 ghost use Rattle.digits.specs.Packed.{joined, bytes};
 ghost use Rattle.integers.specs.Sum.{same};
 ghost use Rattle.integers.specs.Tables.{Near, Grown, Summed};
@@ -27,32 +27,21 @@ struct Term {
     multiplier: i64,
 }
 
-// The four bytes from `at` on as one number, the first the highest.
-fn word_at(proposal: &[u8], at: usize) -> usize
+// The four bytes from `at` on as one number, the first the highest. They are listed: with `digits::word` a check of 4,096 terms takes up to a fifth longer, and `as_chunks().0[k]` was left open.
+fn word_at(proposal: &[u8], at: usize) -> u32
     requires { at + 4 ≤ length proposal.now }
-    ensures { (result ≡ joined (bytes 4) proposal.now at) × (result < 2 ^ 32) }
+    ensures { result ≡ joined (bytes 4) proposal.now at }
 {
     u32::from_be_bytes([
         proposal[at],
         proposal[at + 1],
         proposal[at + 2],
         proposal[at + 3],
-    ]) as usize
-}
-
-// A number of 21 bits in two's complement.
-fn signed_of(n: usize) -> i64
-    requires { n < 2097152 }
-    ensures { result ≡ signed 21 n }
-{
-    if n < 1048576 {
-        n as i64
-    } else {
-        n as i64 - 2097152
-    }
+    ])
 }
 
 // Term k of a proposal.
+#[tactic(auto, unfolding(flows::specs::Terms::component_of, flows::specs::Terms::index, flows::specs::Terms::multiplier))]
 fn term_at(proposal: &[u8], k: usize) -> Term
     requires { 4 * k + 4 ≤ length proposal.now }
     ensures component { (result.component ≡ component_of proposal.now k) × (result.component < 128) }
@@ -61,13 +50,15 @@ fn term_at(proposal: &[u8], k: usize) -> Term
 {
     let word = word_at(proposal, 4 * k);
     Term {
-        component: word / 33554432 % 128,
-        index: word / 2097152 % 16,
-        multiplier: signed_of(word % 2097152),
+        component: (word >> 25) as usize % 128,
+        index: (word >> 21) as usize % 16,
+        // the lower 21 bits, in two's complement
+        multiplier: i64::from((word << 11).cast_signed() >> 11),
     }
 }
 
-// The sum of flow v grows by m.
+// The sum of flow v grows by m. How near 0 the sums and m are stay clauses: the bound grows by stage, 2^60 before an equation, 2^61 before all flows of a channel
+// and 2^62 here, so no one type carries it.
 fn add_flow(sums: &mut [i64; MOST_FLOWS], v: usize, m: i64)
     requires in_sums { v < most_flows }
     requires near { Near most_flows (2 ^ 62) sums.old }
@@ -187,7 +178,7 @@ fn add_term(
         index,
         multiplier,
     } = term_at(proposal, k);
-    let equation = equations::equation_named(&netlist.table, netlist.size, component, index, k)?;
+    let equation = equations::equation_named(&netlist.draft(), component, index, k)?;
     add_equation(
         sums,
         &netlist.table,

@@ -1,6 +1,6 @@
 -- What the tests of start, step and run come to, met or not. Assumes nothing.
 use Rattle.std.proofs.Common.{Ok}
-use mathlib.Core.Path.{◌≡◌}
+use mathlib.Core.Path.{◌≡◌, refl}
 use mathlib.Core.Bool.{Bool, false, not}
 use mathlib.Core.List.{List, [], ◌∷◌}
 use Prim.Native.Nat.{ℕ, ◌*◌, ◌%◌, ◌≤◌}
@@ -13,19 +13,24 @@ use Rattle.refusals.specs.Refusals.{test, first_refusal}
 use Rattle.refusals.specs.declared.Refusal.TheVariants.{StateShort, BadState, ChoiceCount, BadChoice}
 use Rattle.refusals.proofs.Refusals.{cond-accepted}
 use Rattle.refusals.proofs.Room.{last-accepted}
-use Rattle.netlist.specs.Netlist.{Netlist, row_of}
+use Rattle.netlist.specs.declared.Size.{Size}
+use Rattle.netlist.specs.Netlist.{Netlist, netlist_of, row_of}
 use Rattle.netlist.specs.Accepted.{AcceptedFabric}
 use Rattle.cells.specs.Cells.{cell, cell_size}
 use Rattle.cells.specs.Good.{good_cell, bad_component, Good}
 use Rattle.cells.specs.Choices.{Allowed, choice_at, bad_choice}
 use Rattle.cells.proofs.Good.{no-bad-component}
 use Rattle.cells.proofs.Choices.{no-bad-choice}
-use Rattle.verdicts.specs.Tests.{step_tests, run_tests}
+use Rattle.verdicts.specs.Tests.{start_tests, step_tests, run_tests}
 use Rattle.verdicts.specs.Stages.{ready_tests, Testable}
 
 -- 21
 pub start-space : (space need : ℕ) → first_refusal (test StateShort (ltb space need) ∷ []) ≡ (Ok tt) → need ≤ space
 start-space space need e = ltb-false space need (cond-accepted StateShort (ltb space need) (Ok tt) e).0
+
+-- the same of every table, so start_verdict's promise over an empty one is said of each
+pub start_any_table : (size : Size) (t : List ℕ) (space : ℕ) → first_refusal (start_tests (netlist_of size t) space) ≡ first_refusal (start_tests (netlist_of size []) space)
+start_any_table size t space = refl
 
 -- ---- 21, 22, 9 and 10
 -- what none of them met gives

@@ -5,12 +5,12 @@ ghost use Rattle.std.specs.Prelude.{◌≡◌, [], ◌≤◌, length};
 ghost use Rattle.refusals.specs.Refusals.{first_refusal};
 ghost use Rattle.component.specs.Limits.{most_components};
 ghost use Rattle.netlist.specs.Netlist.{netlist_of};
+ghost use Rattle.netlist.specs.View.{drawn};
 ghost use Rattle.verdicts.specs.Tests.{start_tests, step_tests, run_tests};
 ghost use Rattle.verdicts.specs.Stages.{state_tests, choice_tests, Testable};
 
 use cells::CELL_SIZE;
-use component::Table;
-use netlist::Size;
+use netlist::{Draft, Size};
 use refusals::Refusal;
 
 /// The refusal 21, with so many bytes of state memory. It is the same for every table, so the promise speaks of an empty one.
@@ -25,25 +25,23 @@ pub fn start_verdict(size: Size, space: usize) -> Result<(), Refusal>
 }
 
 // The refusals 21 and 22.
-fn state_verdict(table: &Table, size: Size, state: &[u8]) -> Result<(), Refusal>
-    requires rows { size.components ≤ table.now.rows }
-    requires few { Testable (netlist_of size table.now.bytes.now) }
-    ensures { result ≡ first_refusal (state_tests (netlist_of size table.now.bytes.now) state.now) }
+fn state_verdict(draft: &Draft, state: &[u8]) -> Result<(), Refusal>
+    requires few { Testable (drawn draft.now) }
+    ensures { result ≡ first_refusal (state_tests (drawn draft.now) state.now) }
 {
-    start_verdict(size, state.len())?;
-    if let Some(k) = good::first_bad_cell(table, size, state) {
+    start_verdict(draft.size, state.len())?;
+    if let Some(k) = good::first_bad_cell(draft, state) {
         return Err(Refusal::BadState(k));
     }
     Ok(())
 }
 
 // The refusal 10.
-fn choice_verdict(table: &Table, size: Size, choices: &[u8]) -> Result<(), Refusal>
-    requires rows { size.components ≤ table.now.rows }
-    requires few { Testable (netlist_of size table.now.bytes.now) }
-    ensures { result ≡ first_refusal (choice_tests (netlist_of size table.now.bytes.now) choices.now) }
+fn choice_verdict(draft: &Draft, choices: &[u8]) -> Result<(), Refusal>
+    requires few { Testable (drawn draft.now) }
+    ensures { result ≡ first_refusal (choice_tests (drawn draft.now) choices.now) }
 {
-    if let Some(o) = good::first_bad_choice(table, size, choices) {
+    if let Some(o) = good::first_bad_choice(draft, choices) {
         return Err(Refusal::BadChoice(o));
     }
     Ok(())
@@ -51,33 +49,30 @@ fn choice_verdict(table: &Table, size: Size, choices: &[u8]) -> Result<(), Refus
 
 /// The refusals 21, 22, 9, 10 and 23 of a step, with so many bytes for the moves.
 pub fn step_verdict(
-    table: &Table,
-    size: Size,
+    draft: &Draft,
     state: &[u8],
     choices: &[u8],
     space: usize,
 ) -> Result<(), Refusal>
-    requires rows { size.components ≤ table.now.rows }
-    requires few { Testable (netlist_of size table.now.bytes.now) }
-    ensures { result ≡ first_refusal (step_tests (netlist_of size table.now.bytes.now) state.now choices.now space) }
+    requires few { Testable (drawn draft.now) }
+    ensures { result ≡ first_refusal (step_tests (drawn draft.now) state.now choices.now space) }
 {
-    state_verdict(table, size, state)?;
-    if choices.len() != size.components {
+    state_verdict(draft, state)?;
+    if choices.len() != draft.size.components {
         return Err(Refusal::ChoiceCount);
     }
-    choice_verdict(table, size, choices)?;
-    refusals::room_for(space, size.channels)
+    choice_verdict(draft, choices)?;
+    refusals::room_for(space, draft.size.channels)
 }
 
 /// The refusals 21, 22, 9 and 10 of a run.
-pub fn run_verdict(table: &Table, size: Size, state: &[u8], choices: &[u8]) -> Result<(), Refusal>
-    requires rows { size.components ≤ table.now.rows }
-    requires few { Testable (netlist_of size table.now.bytes.now) }
-    ensures { result ≡ first_refusal (run_tests (netlist_of size table.now.bytes.now) state.now choices.now) }
+pub fn run_verdict(draft: &Draft, state: &[u8], choices: &[u8]) -> Result<(), Refusal>
+    requires few { Testable (drawn draft.now) }
+    ensures { result ≡ first_refusal (run_tests (drawn draft.now) state.now choices.now) }
 {
-    state_verdict(table, size, state)?;
-    if choices.len() % size.components != 0 {
+    state_verdict(draft, state)?;
+    if choices.len() % draft.size.components != 0 {
         return Err(Refusal::ChoiceCount);
     }
-    choice_verdict(table, size, choices)
+    choice_verdict(draft, choices)
 }

@@ -5,7 +5,7 @@ use native.Mathlib.Numerals.{add-one}
 use native.Mathlib.Decide.{ℕ_discrete}
 use native.Mathlib.Omega.{arith}
 use mathlib.Core.Bool.{Bool, true, false, not, cond, ◌&&◌, false≢true}
-use mathlib.Core.List.{List}
+use mathlib.Core.List.{List, []}
 use lib.Dec.{eqb}
 use lib.ListN.{length, get_or, set, replicate, length-set, length-replicate}
 use lib.Seq.{get_or-set_same, get_or-set_other}
@@ -15,13 +15,14 @@ use Rattle.digits.specs.Count.{count}
 use Rattle.digits.proofs.Count.{count_yes, count_no, count-only}
 use Rattle.digits.proofs.Least.{least_at, least-before, least-same}
 use Rattle.order.proofs.Zeros.{get_or-zeros}
+use Rattle.order.specs.Graph.{dep}
 use Rattle.component.specs.Kind.{Use, input, output, unused, is_output, is_input, port_use}
 use Rattle.component.specs.Row.{kind, port}
 use Rattle.component.specs.Limits.{most_channels, most_components}
 use Rattle.wiring.specs.Ends.{end_row, end_port, on_side, is_end, unmatched, first_unmatched}
 use Rattle.wiring.specs.Ports.{marked, found, single}
 use Rattle.wiring.specs.Sound.{Ends}
-use Rattle.wiring.specs.Stages.{signal_at, FoundEnds, Entries, ends_size}
+use Rattle.wiring.specs.Stages.{signal_at, FoundEnds, entries, ends_size}
 use Rattle.wiring.specs.Signals.{is_offer, gives, end_of, depends_at, dependence}
 
 -- ---- what is found, by the count of ends
@@ -103,9 +104,6 @@ slot-hit unused false x y h = ne_eqb 512 (2 * x + 1) (λ q. absurd (omega arith)
 pub ends-none : (table : List ℕ) → FoundEnds table 0 (replicate ends_size 0)
 ends-none table = record { long = length-replicate {A = ℕ} ends_size 0; at = λ side x h. get_or-zeros ends_size (signal_at side x) ∙ sym (found-zero (is_end table side x)) }
 
-pub found_at : {table ends : List ℕ} {a b : ℕ} → a ≡ b → FoundEnds table a ends → FoundEnds table b ends
-found_at {table} {ends} e noted = subst (λ (n : ℕ). FoundEnds table n ends) e noted
-
 -- one end more is noted
 pub ends_more : (table ends : List ℕ) (e y at v : ℕ) → at < ends_size
     → y ≡ port (end_row table e) (end_port e) → at ≡ use_slot (port_use (kind (end_row table e)) (end_port e)) y → v ≡ marked e (get_or ends at 0)
@@ -134,27 +132,23 @@ ends_more table ends e y at v ha ey ea ev noted = record {
 pub suc_inj : {a b : ℕ} → suc a ≡ suc b → a ≡ b
 suc_inj e = omega arith
 
--- a turn of the loop that lays down those of one
-pub entries-more : (f : ℕ → ℕ) (before l : List ℕ) (at j v : ℕ) → at + j < length l → v ≡ f j
-    → ((q : ℕ) → q < at → get_or l q 0 ≡ get_or before q 0) × ((i : ℕ) → i < j → get_or l (at + i) 0 ≡ f i)
-    → ((q : ℕ) → q < at → get_or (set l (at + j) v) q 0 ≡ get_or before q 0) × ((i : ℕ) → i < j + 1 → get_or (set l (at + j) v) (at + i) 0 ≡ f i)
-entries-more f before l at j v h e inv =
-    (λ q b. get_or-set_other l (at + j) q v 0 (λ (z : q ≡ at + j). absurd (omega arith)) ∙ inv.0 q b, λ i b. here i b (ℕ_discrete i j))
-  where
-    here : (i : ℕ) → i < j + 1 → Dec (i ≡ j) → get_or (set l (at + j) v) (at + i) 0 ≡ f i
-    here i b (yes z) = rw z (get_or-set_same l (at + j) v 0 h) ∙ e ∙ ap f (sym z)
-    here i b (no z) = get_or-set_other l (at + j) (at + i) v 0 (λ (y : at + i ≡ at + j). absurd (omega (arith, z))) ∙ inv.1 i (omega arith)
-
 -- a turn of the loop over the signals
-pub signals-more : (table : List ℕ) (n s e : ℕ) (before after : List ℕ) → Entries table e s before after → e ≡ end_of table n s
-    → ((t j : ℕ) → t < s → j < 4 → get_or before (4 * t + j) 0 ≡ dependence table n t j)
-    → (t j : ℕ) → t < s + 1 → j < 4 → get_or after (4 * t + j) 0 ≡ dependence table n t j
+pub signals-more : (table : List ℕ) (n s e : ℕ) (deps : List (List ℕ)) → s < length deps → e ≡ end_of table n s
+    → ((t j : ℕ) → t < s → j < 4 → dep deps t j ≡ dependence table n t j)
+    → (t j : ℕ) → t < s + 1 → j < 4 → dep (set deps s (entries table e)) t j ≡ dependence table n t j
 unfolding dependence
-signals-more table n s e before after laid q inv t j ht hj = go (ℕ_discrete t s)
+signals-more table n s e deps h q inv t j ht hj = go (ℕ_discrete t s)
   where
-    go : Dec (t ≡ s) → get_or after (4 * t + j) 0 ≡ depends_at table (end_of table n t) j
-    go (yes z) = rw z (laid.at j hj ∙ ap (λ (x : ℕ). depends_at table x j) q)
-    go (no z) = laid.kept (4 * t + j) (omega (arith, z)) ∙ inv t j (omega (arith, z)) hj
+    four : (j : ℕ) → j < 4 → get_or (entries table e) j 0 ≡ depends_at table e j
+    four zero h = refl
+    four (suc zero) h = refl
+    four (suc (suc zero)) h = refl
+    four (suc (suc (suc zero))) h = refl
+    four (suc (suc (suc (suc j)))) h = absurd (omega arith)
+
+    go : Dec (t ≡ s) → dep (set deps s (entries table e)) t j ≡ depends_at table (end_of table n t) j
+    go (yes z) = rw (z, get_or-set_same deps s (entries table e) [] h) (four j hj ∙ ap (λ (x : ℕ). depends_at table x j) q)
+    go (no z) = rw (get_or-set_other deps s t (entries table e) [] z) (inv t j (omega (arith, z)) hj)
 
 -- ---- from the ends that are noted
 signal-of : (s : ℕ) → signal_at (is_offer s) (s / 2) ≡ s

@@ -46,7 +46,7 @@ module _ (table : List ℕ) (n channels : ℕ) (l : n ≤ most_components) (few 
       unfolding wired
       rest = rw (bad, le-ltb channels channels (omega arith))
 
-      module _ (deps order : List ℕ) (d : Dependences table n channels deps) where
+      module _ (deps : List (List ℕ)) (order : List ℕ) (d : Dependences table n channels deps) where
         agrees : (b : Bool) → OrderOf (dep deps) (2 * channels) b order → OrderOf (dependence table n) (2 * channels) b order
         agrees b r = order_same (dep deps) (dependence table n) (2 * channels) (λ s k hs hk. d.at s k hs hk) b order r
 

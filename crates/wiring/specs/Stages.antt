@@ -1,8 +1,10 @@
 -- What the stages of the code come to. It describes the code, and proofs/Sound.antt ties it to the definitions.
-use Rattle.std.specs.Prelude.{◌≡◌, ℕ, ◌+◌, ◌*◌, ◌≤◌, ◌<◌, Bool, true, false, cond, List, length, get_or, ltb, Result, Ok, Err}
-use Rattle.order.specs.Graph.{has_circle, most_signals}
+use Rattle.std.specs.Prelude.{◌≡◌, ℕ, ◌+◌, ◌*◌, ◌≤◌, ◌<◌, Bool, true, false, cond, List, [], ◌∷◌, length, get_or, ltb, Result, Ok, Err}
+use Rattle.order.specs.Graph.{dep, has_circle}
 use Rattle.record.specs.Table.{row}
 use Rattle.record.specs.Sizes.{row_size}
+use Rattle.component.specs.declared.kinds.Port.{Port}
+use Rattle.component.specs.declared.kinds.Port.TheVariants.{A, B, C}
 use Rattle.component.specs.Row.{kind_number}
 use Rattle.component.specs.Limits.{most_components}
 use Rattle.wiring.specs.Ends.{is_end, first_unmatched}
@@ -32,18 +34,21 @@ abbrev pub signal_at : Bool → ℕ → ℕ
 signal_at true x = 2 * x
 signal_at false x = 2 * x + 1
 
+-- an end is port p of its component
+abbrev pub port_number : Port → ℕ
+port_number A = 0
+port_number B = 1
+port_number C = 2
+
 -- what is noted of each channel after the first e ends
 pub record FoundEnds (table : List ℕ) (e : ℕ) (ends : List ℕ) : Type 0 where
   pub long : length ends ≡ ends_size
   pub at : (side : Bool) (x : ℕ) → x < 256 → get_or ends (signal_at side x) 0 ≡ found (is_end table side x) e
 
--- the four entries of signal s, which end e gives; what stands before them is as it was
-pub record Entries (table : List ℕ) (e s : ℕ) (before after : List ℕ) : Type 0 where
-  pub long : length after ≡ 4 * most_signals
-  pub kept : (q : ℕ) → q < 4 * s → get_or after q 0 ≡ get_or before q 0
-  pub at : (j : ℕ) → j < 4 → get_or after (4 * s + j) 0 ≡ depends_at table e j
+-- the four entries of the signal that end e gives
+abbrev pub entries : List ℕ → ℕ → List ℕ
+entries table e = depends_at table e 0 ∷ depends_at table e 1 ∷ depends_at table e 2 ∷ depends_at table e 3 ∷ []
 
 -- a table of the dependences
-pub record Dependences (table : List ℕ) (n channels : ℕ) (deps : List ℕ) : Type 0 where
-  pub long : length deps ≡ 4 * most_signals
-  pub at : (s j : ℕ) → s < 2 * channels → j < 4 → get_or deps (4 * s + j) 0 ≡ dependence table n s j
+pub record Dependences (table : List ℕ) (n channels : ℕ) (deps : List (List ℕ)) : Type 0 where
+  pub at : (s j : ℕ) → s < 2 * channels → j < 4 → dep deps s j ≡ dependence table n s j

@@ -1,17 +1,12 @@
 // The channels of a table: the two ends of each, the dependences of their signals, and an order of them or a circle.
 #![tactic(auto)]
 
-ghost use Rattle.std.specs.Prelude.{◌≡◌, suc, ◌+◌, ◌*◌, ◌/◌, ◌≤◌, ◌<◌, not, ◌&&◌, length, get_or, replicate, OnOk, Result, Ok, Err};
+ghost use Rattle.std.specs.Prelude.{◌≡◌, suc, ◌+◌, ◌*◌, ◌/◌, ◌≤◌, ◌<◌, not, ◌&&◌, get_or, replicate, OnOk};
 ghost use Rattle.search.specs.First.{first};
-ghost use Rattle.order.specs.Graph.{most_signals};
-ghost use Rattle.record.specs.Table.{row};
-ghost use Rattle.record.specs.Sizes.{row_size};
-ghost use Rattle.component.specs.Kind.{kind_of, port_of};
-ghost use Rattle.component.specs.Row.{port, kind_number};
 ghost use Rattle.component.specs.Limits.{most_channels, most_components};
 ghost use Rattle.wiring.specs.Signals.{depends_at};
 ghost use Rattle.wiring.specs.Sound.{Ends, SoundWires};
-ghost use Rattle.wiring.specs.Stages.{Kinds, FoundEnds, Entries, Dependences, wired, ends_size};
+ghost use Rattle.wiring.specs.Stages.{Kinds, FoundEnds, entries, port_number, Dependences, wired, ends_size};
 ghost use Rattle.wiring.specs.Refused.{miswired_of, refusal_of};
 ghost use Rattle.wiring.specs.Ports.{port_code, end_code, slot_of, code_has, marked, single};
 
@@ -19,49 +14,39 @@ use component::{Kind, Port, Table};
 use order::{Circular, MOST_SIGNALS};
 use refusals::Refusal;
 
-// A note for each signal of 256 channels, and one that nobody reads.
+/// A note for each signal of 256 channels, and one that nobody reads.
 pub const ENDS_SIZE: usize = 513;
 
-// A line a kind and port: 16 an output, 32 an input, and what the signal there depends on:
-// 8 offer(A), 4 offer(B), 2 take(B), 1 take(C). A table and no `match` on kind and port, whose jumps make reading a file a third slower.
-const PORTS: [u8; 24] = [
-    16, // source A
-    0, 0, 32, // sink A
-    0, 0, 32, // queue A
-    16, // queue B
-    0, 34, // function A: take(B)
-    24, // function B: offer(A)
-    0, 35, // fork A: take(B), take(C)
-    25, // fork B: offer(A), take(C)
-    26, // fork C: offer(A), take(B)
-    37, // join A: offer(B), take(C)
-    41, // join B: offer(A), take(C)
-    28, // join C: offer(A), offer(B)
-    43, // switch A: offer(A), take(B), take(C)
-    24, // switch B: offer(A)
-    24, // switch C: offer(A)
-    45, // merge A: offer(A), offer(B), take(C)
-    45, // merge B: offer(A), offer(B), take(C)
-    28, // merge C: offer(A), offer(B)
+// A row a kind, a number a port: 16 an output, 32 an input, and what the signal there depends on: 8 offer(A), 4 offer(B), 2 take(B),
+// 1 take(C). A table and no `match` on kind and port, whose jumps make reading a file a third slower.
+const PORTS: &[[u8; 3]; 8] = &[
+    [16, 0, 0], // source A
+    [32, 0, 0], // sink A
+    [32, 16, 0], // queue A, B
+    [34, 24, 0], // function A: take(B); B: offer(A)
+    [35, 25, 26], // fork A: take(B), take(C); B: offer(A), take(C); C: offer(A), take(B)
+    [37, 41, 28], // join A: offer(B), take(C); B: offer(A), take(C); C: offer(A), offer(B)
+    [43, 24, 24], // switch A: offer(A), take(B), take(C); B, C: offer(A)
+    [45, 45, 28], // merge A, B: offer(A), offer(B), take(C); C: offer(A), offer(B)
 ];
 
 fn port_code(kind: Kind, port: Port) -> u8
     ensures { result ≡ port_code kind port }
 {
-    PORTS[3 * kind as usize + port as usize]
+    PORTS[kind as usize][port as usize]
 }
 
 // The code of end e.
 #[tactic(auto, unfolding(crate::specs::Ports::end_code))]
 fn end_code(table: &Table, e: usize) -> u8
     requires end { e / 3 < table.now.rows }
-    requires kind { kind_number (row table.now.bytes.now (e / 3)) ≤ 7 }
     ensures { result ≡ end_code table.now.bytes.now e }
 {
     port_code(table.kind(e / 3), Port::from(e % 3))
 }
 
-// Where the end of this code at channel x is noted: at 2x for an output, at 2x + 1 for an input, at 512 if it is no end.
+// Where the end of this code at channel x is noted: at 2x for an output, at 2x + 1 for an input, at 512 if it is no end. Signals and ends go by number here, as the order and
+// the dependences name them.
 fn slot(code: u8, x: usize) -> usize
     requires { x < 256 }
     ensures { (result ≡ slot_of code x) × (result < ends_size) }
@@ -75,6 +60,7 @@ fn slot(code: u8, x: usize) -> usize
     512
 }
 
+// Whether a code has need j: 0 offer(A), 1 offer(B), 2 take(B), 3 take(C), the bits 8, 4, 2, 1 of it: a need is a number, as it is a bit and a place in a row.
 fn code_has(code: u8, j: usize) -> bool
     ensures { result ≡ code_has code j }
 {
@@ -95,31 +81,29 @@ fn mark(e: usize, old: u16) -> u16
     512
 }
 
-// Notes port p of component k, after all ends before it.
-fn note_end(table: &Table, k: usize, p: usize, ends: &mut [u16; ENDS_SIZE])
+// Notes the end at a port of component k, after all ends before it.
+fn note_end(table: &Table, k: usize, port: Port, ends: &mut [u16; ENDS_SIZE])
     requires row { k < table.now.rows }
     requires few { table.now.rows ≤ most_components }
-    requires port { p < 3 }
-    requires kind { kind_number (row table.now.bytes.now k) ≤ 7 }
-    requires before { FoundEnds table.now.bytes.now (3 * k + p) ends.old }
-    ensures { FoundEnds table.now.bytes.now (3 * k + p + 1) ends.new }
+    requires before { FoundEnds table.now.bytes.now (3 * k + port_number port) ends.old }
+    ensures { FoundEnds table.now.bytes.now (3 * k + port_number port + 1) ends.new }
 {
-    let port = Port::from(p);
     let x = usize::from(table.port(k, port));
     let at = slot(port_code(table.kind(k), port), x);
-    ends[at] = mark(3 * k + p, ends[at]);
+    ends[at] = mark(3 * k + port as usize, ends[at]);
 }
 
 // Notes for each signal 1 + the end that gives it, 0 where there is none, 512 where there are several.
+// A number and no enum of three, which is no plainer: a plan takes 1 + the end from the notes as they stand, where an enum would be unpacked for each signal.
 fn find_ends(table: &Table, ends: &mut [u16; ENDS_SIZE])
-    requires kinds { Kinds table.now.bytes.now table.now.rows }
+    requires few { table.now.rows ≤ most_components }
     requires clear { ends.old ≡ replicate ends_size 0 }
     ensures { FoundEnds table.now.bytes.now (3 * table.now.rows) ends.new }
 {
     for k in 0..table.rows {
-        note_end(table, k, 0, ends);
-        note_end(table, k, 1, ends);
-        note_end(table, k, 2, ends);
+        note_end(table, k, Port::A, ends);
+        note_end(table, k, Port::B, ends);
+        note_end(table, k, Port::C, ends);
     }
 }
 
@@ -147,10 +131,9 @@ fn end_before(v: u16) -> usize
     v as usize - 1
 }
 
-// Entry j of what the signal at end e, of this code, depends on.
+// Entry j of what the signal at end e, of this code, depends on; 510 for none, since the walk passes over whatever is no signal by one comparison.
 fn depends_at(table: &Table, e: usize, code: u8, j: usize) -> u16
     requires end { e / 3 < table.now.rows }
-    requires kind { kind_number (row table.now.bytes.now (e / 3)) ≤ 7 }
     requires code { code ≡ end_code table.now.bytes.now e }
     requires entry { j < 4 }
     ensures { result ≡ depends_at table.now.bytes.now e j }
@@ -162,33 +145,38 @@ fn depends_at(table: &Table, e: usize, code: u8, j: usize) -> u16
     510
 }
 
-// Lays down the four entries of signal s, which end e gives.
-fn put_entries(table: &Table, e: usize, s: usize, deps: &mut [u16; 4 * MOST_SIGNALS])
+// Lays down the four entries of the signal that end e gives, in place: handed back as an array they cost a jump each, and reading a file takes a tenth longer.
+fn put_entries(table: &Table, e: usize, row: &mut [u16; 4])
     requires end { e / 3 < table.now.rows }
-    requires kind { kind_number (row table.now.bytes.now (e / 3)) ≤ 7 }
-    requires signal { s < most_signals }
-    ensures { Entries table.now.bytes.now e s deps.old deps.new }
+    ensures { row.new ≡ entries table.now.bytes.now e }
 {
     let code = end_code(table, e);
-    for j in 0..4 {
-        deps[4 * s + j] = depends_at(table, e, code, j);
-    }
+    *row = [
+        depends_at(table, e, code, 0),
+        depends_at(table, e, code, 1),
+        depends_at(table, e, code, 2),
+        depends_at(table, e, code, 3),
+    ];
 }
 
-// Lays down the dependences of all signals, four entries a signal.
+// Room for the dependences of all signals. A function of its own: room that `wire` makes itself is filled twice, and it then takes half as long again on a table of six rows.
+fn no_dependences() -> [[u16; 4]; MOST_SIGNALS] {
+    [[0; 4]; MOST_SIGNALS]
+}
+
+// Lays down the dependences of all signals.
 fn dependences(
     table: &Table,
     ends: &[u16; ENDS_SIZE],
     channels: usize,
-    deps: &mut [u16; 4 * MOST_SIGNALS],
+    deps: &mut [[u16; 4]; MOST_SIGNALS],
 )
-    requires kinds { Kinds table.now.bytes.now table.now.rows }
     requires few { channels ≤ most_channels }
     requires ends { Ends table.now.bytes.now table.now.rows channels ends.now }
     ensures { Dependences table.now.bytes.now table.now.rows channels deps.new }
 {
     for s in 0..2 * channels {
-        put_entries(table, end_before(ends[s]), s, deps);
+        put_entries(table, end_before(ends[s]), &mut deps[s]);
     }
 }
 
@@ -203,7 +191,7 @@ impl From<Circular> for Miswired {
     ghost from_gives = { λ circular miswired. miswired ≡ miswired_of circular };
 
     fn from(_: Circular) -> Miswired {
-        Miswired::Circular
+        Self::Circular
     }
 }
 
@@ -236,7 +224,7 @@ pub fn wire(
     if let Some(x) = first_unmatched(ends, channels) {
         return Err(Miswired::Unmatched(x));
     }
-    let mut deps = [0; 4 * MOST_SIGNALS];
+    let mut deps = no_dependences();
     dependences(table, ends, channels, &mut deps);
     order::order_of(&deps, 2 * channels, order)?;
     Ok(())

@@ -1,3 +1,8 @@
+use Rattle.std.specs.Option.{IfSome, IfNone, ok_or, unwrap_or}
+use Rattle.std.specs.Result.{result_ok, result_err}
+use Rattle.std.proofs.Common.{None}
+use Rattle.refusals.specs.declared.Refusal.TheVariants.{BadBlocks}
+use Rattle.std.proofs.lemmas.Result.{err_from_is_err_and}
 use mathlib.Core.Path.{◌≡◌, sym, ap, subst, ◌∙◌}
 use mathlib.Core.Bool.{true, false}
 use mathlib.Core.List.{List}
@@ -6,7 +11,7 @@ use native.Mathlib.Omega.{arith}
 use lib.Dec.{eqb}
 use lib.ListN.{length, drop, length-drop}
 use borrow.Author.Tests.{eqb-true, eqb-false}
-use Rattle.blocks.specs.Blocks.{term_count, block_start, behind, StartsWhole}
+use Rattle.blocks.specs.Blocks.{term_count, block_start, behind, StartsWhole, IsSplit}
 use Rattle.blocks.proofs.Blocks.{Walked, walked_none, walked_more, walked_all, walked-good, bad-many, bad-split, found-bad, found-good, start_none, behind-more}
 use Rattle.blocks.proofs.blocks_in.Goals as goal
 
@@ -26,15 +31,18 @@ returns-then-blocks-eq-MOST_BLOCKS c =
     let i = c.loop-rest.invariant in
     found-bad _ (bad-many _ i.0 (more i (sym c.loop-rest-test.ensures)) (omega arith))
 
-pub returns-in_default : goal.returns-in_default
-returns-in_default c =
+pub returns-in_err-after : goal.returns-in_err-after
+returns-in_err-after c =
     let i = c.loop-rest.invariant in
-    found-bad _ (bad-split _ i.0 (more i (sym c.loop-rest-test.ensures)) (omega (arith, i.0.few)) (subst (λ (s : List ℕ). StartsWhole s → ⊥) i.1 c.in_default.ensures.none))
+    let e = err_from_is_err_and c.from_residual.result c.from_residual.ensures.1 in
+    let n : c.split_block.result ≡ None = c.ok_or.ensures.ok_part ∙ ap result_ok c.in_err-after.was in
+    let y = ap (λ r. unwrap_or (result_err r) BadBlocks) (sym c.in_err-after.was ∙ c.ok_or.ensures.value ∙ ap (λ o. ok_or o BadBlocks) n) in
+    rw (e.1, e.2, y) (found-bad _ (bad-split _ i.0 (more i (sym c.loop-rest-test.ensures)) (omega (arith, i.0.few)) (subst (λ (s : List ℕ). StartsWhole s → ⊥) i.1 (subst (λ o. IfNone o (StartsWhole c.loop-rest.rest.now → ⊥)) n c.split_block.ensures.none))))
 
 pub loop-rest-preserved : goal.loop-rest-preserved
 loop-rest-preserved c =
     let i = c.loop-rest.invariant in
-    let s = c.in-Some.ensures.some in (
+    let s = subst (λ o. IfSome o (λ parts. StartsWhole c.loop-rest.rest.now × IsSplit c.loop-rest.rest.now parts.0.now parts.1.now)) (c.ok_or.ensures.ok_part ∙ ap result_ok c.in_ok-after.was) c.split_block.ensures.some in (
       walked_more _ i.0 (more i (sym c.loop-rest-test.ensures)) (omega (arith, i.0.few)) (subst StartsWhole i.1 s.0),
       s.1.rest ∙ ap (λ (t : List ℕ). drop (2 + 4 * term_count t 0) t) i.1 ∙ behind-more _ _,
     )

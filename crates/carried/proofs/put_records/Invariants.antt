@@ -6,6 +6,6 @@ use Rattle.carried.proofs.put_records.Given as goal
 
 abbrev pub invariant-loop-k : goal.invariant-loop-k
 invariant-loop-k l = record {
-  laid : l.out ≡ take header_size l.initial.out ++ records l.table l.k ++ drop (file_size l.k) l.initial.out;
+  laid : l.out ≡ take header_size l.initial.out ++ records l.table.bytes.now l.k ++ drop (file_size l.k) l.initial.out;
   counted : l.so_far ≡ carried_sum l.out l.k;
 }

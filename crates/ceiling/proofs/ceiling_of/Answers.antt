@@ -50,10 +50,10 @@ module _ (c : In_ok-weighing) where
   netlist = facts_of c.args.netlist.now
 
   ok : judged (facts_of c.args.netlist.now) c.args.proposal.now ≡ Ok tt
-  ok = sym (given-back (judged (facts_of c.args.netlist.now) c.args.proposal.now) c.in_ok-weighing.ensures.value).0
+  ok = sym (given-back (judged (facts_of c.args.netlist.now) c.args.proposal.now) (rw c.from-coloured.ensures.0 at c.in_ok-weighing.ensures.value)).0
 
   said : c.in_ok-weighing.weighing ≡ weighing_of (facts_of c.args.netlist.now) c.args.proposal.now c.in-Some.entry
-  said = (given-back (judged (facts_of c.args.netlist.now) c.args.proposal.now) c.in_ok-weighing.ensures.value).1
+  said = (given-back (judged (facts_of c.args.netlist.now) c.args.proposal.now) (rw c.from-coloured.ensures.0 at c.in_ok-weighing.ensures.value)).1
 
   entry-is : (no_place (facts_of c.args.netlist.now) c.args.queue c.args.colour ≡ false) × (c.in-Some.entry ≡ 8 * c.args.queue + c.args.colour)
   entry-is = an-entry (facts_of c.args.netlist.now) (accepted_netlist c.args.netlist.now.accepted) c.args.queue c.args.colour c.in-Some.ensures
@@ -76,19 +76,19 @@ pub returns-in_err-judge_answer : goal.returns-in_err-judge_answer
 returns-in_err-judge_answer c =
     let start = (goal.at.returns-in_err-judge_answer c).Start in
     let e = err_from_is_err_and c.from_residual.result c.from_residual.ensures.1 in
-    rw (e.1, e.2) (giving-refused _ (judged-first (f start) (p start) (q start) (d start) (refused-back (judged_within (f start) (p start) most_entries) _ c.in_err-judge_answer.ensures ∙ roomy start)))
+    rw (e.1, e.2) (giving-refused _ (judged-first (f start) (p start) (q start) (d start) (refused-back (judged_within (f start) (p start) most_entries) _ (rw c.from-coloured.ensures.0 at c.in_err-judge_answer.ensures) ∙ roomy start)))
 
 pub returns-in_default : goal.returns-in_default
 returns-in_default c =
     let start = (goal.at.returns-in_default c).Start in
-    let fine = sym (roomy start) ∙ sym (given-back (judged_within (f start) (p start) most_entries) c.in_ok-judge_answer.ensures).0 in
+    let fine = sym (roomy start) ∙ sym (given-back (judged_within (f start) (p start) most_entries) (rw c.from-coloured.ensures.0 at c.in_ok-judge_answer.ensures)).0 in
     giving-refused _ (place-tests (f start) (p start) (q start) (d start) fine (no-entry (f start) (accepted start) (q start) (d start) c.in_default.ensures) refl)
 
 pub returns-in_err-weighing : goal.returns-in_err-weighing
 returns-in_err-weighing c =
     let start = (goal.at.returns-in_err-weighing c).Start in
     let e = err_from_is_err_and c.from_residual-in_err-weighing.result c.from_residual-in_err-weighing.ensures.1 in
-    rw (e.1, e.2) (giving-refused _ (judged-first (f start) (p start) (q start) (d start) (refused-back (judged (f start) (p start)) _ c.in_err-weighing.ensures.value)))
+    rw (e.1, e.2) (giving-refused _ (judged-first (f start) (p start) (q start) (d start) (refused-back (judged (f start) (p start)) _ (rw c.from-coloured.ensures.0 at c.in_err-weighing.ensures.value))))
 
 pub returns-then-weighing-eq0 : goal.returns-then-weighing-eq0
 returns-then-weighing-eq0 c =

@@ -19,12 +19,9 @@ overflow_cast-colours c = omega (arith, (passed (goal.at.overflow_cast-colours c
 pub overflow_cast-channels : goal.overflow_cast-channels
 overflow_cast-channels c = omega (arith, (passed (goal.at.overflow_cast-channels c).In_ok-pack_answer).inside.few_channels)
 
-pub overflow_cast-rows : goal.overflow_cast-rows
-overflow_cast-rows c = omega (arith, (passed (goal.at.overflow_cast-rows c).In_ok-pack_answer).inside.few_rows)
-
 pub put_file-requires : goal.put_file-requires
 put_file-requires c = let f = passed (goal.at.put_file-requires c).In_ok-pack_answer in
-    (omega (arith, f.inside.few_colours), omega (arith, f.even), omega (arith, f.room))
+    (omega (arith, f.inside.few_colours), omega (arith, f.inside.few_rows), f.room)
 
 pub returns-clause-file : goal.returns-clause-file
 returns-clause-file c = let a = c.args in

@@ -7,4 +7,4 @@ use Rattle.integers.specs.Total.{total}
 use Rattle.headroom.proofs.owed_by.Given as goal
 
 abbrev pub invariant-loop-d : goal.invariant-loop-d
-invariant-loop-d l = (l.owed ≡ total l.d (λ d. below_zero (get_or l.weights (8 * l.q + d) (pos 0)) * l.capacity)) × (l.owed ≤ 2 ^ 48 * l.d)
+invariant-loop-d l = (l.owed ≡ total l.d (λ d. below_zero (get_or l.weights.entries.now (8 * l.q + d) (pos 0)) * l.capacity)) × (l.owed ≤ 2 ^ 48 * l.d)

@@ -15,8 +15,8 @@ use Rattle.headroom.proofs.owed_by_all.Goals as goal
 pub loop-q-init : goal.loop-q-init
 loop-q-init c = (sym (total-none _), omega arith)
 
-pub owed_by-owed-requires-clause-in_table : goal.owed_by-owed-requires-clause-in_table
-owed_by-owed-requires-clause-in_table c = let h = accepted_netlist c.args.netlist.now.accepted in (omega (arith, h.facts.few_rows), h.facts.few_colours, c.capacity.type_inv)
+pub owed_by-owed-requires : goal.owed_by-owed-requires
+owed_by-owed-requires c = let h = accepted_netlist c.args.netlist.now.accepted in (omega (arith, h.facts.few_rows), h.facts.few_colours, c.capacity.type_inv)
 
 pub overflow_add-owed : goal.overflow_add-owed
 overflow_add-owed c = record { fits = omega (arith, c.loop-q.invariant.1, c.owed_by-owed.ensures.near, (accepted_netlist c.args.netlist.now.accepted).facts.few_rows) }
@@ -25,7 +25,7 @@ pub loop-q-preserved : goal.loop-q-preserved
 loop-q-preserved c =
     let i = c.loop-q.invariant in
     let q = c.loop-q.q in
-    let g : ℕ → ℕ → ℕ = λ n q. total c.args.netlist.now.size.colours (λ d. below_zero (get_or c.args.weights.now (8 * q + d) (pos 0)) * n) in (
+    let g : ℕ → ℕ → ℕ = λ n q. total c.args.netlist.now.size.colours (λ d. below_zero (get_or c.args.weights.now.entries.now (8 * q + d) (pos 0)) * n) in (
       ap₂ (λ (x y : ℕ). x + y) i.0 (c.owed_by-owed.ensures.value ∙ ap (λ (n : ℕ). g n q) c.capacity.ensures) ∙ sym (total-more q (λ q. g (capacity (row c.args.netlist.now.table.bytes.now q)) q)),
       omega (arith, c.owed_by-owed.ensures.near, i),
     )
@@ -35,4 +35,4 @@ unfolding owed_of
 returns c =
     let e : c.loop-q.q ≡ c.args.netlist.now.size.components = omega arith in
     let i = c.loop-q.invariant in
-    record { value = i.0 ∙ ap (λ (n : ℕ). total n (λ q. total c.args.netlist.now.size.colours (λ d. below_zero (get_or c.args.weights.now (8 * q + d) (pos 0)) * capacity (row c.args.netlist.now.table.bytes.now q)))) e; near = omega (arith, i.1, (accepted_netlist c.args.netlist.now.accepted).facts.few_rows) }
+    record { value = i.0 ∙ ap (λ (n : ℕ). total n (λ q. total c.args.netlist.now.size.colours (λ d. below_zero (get_or c.args.weights.now.entries.now (8 * q + d) (pos 0)) * capacity (row c.args.netlist.now.table.bytes.now q)))) e; near = omega (arith, i.1, (accepted_netlist c.args.netlist.now.accepted).facts.few_rows) }

@@ -9,4 +9,4 @@ use Rattle.component.specs.Row.{capacity}
 use Rattle.headroom.proofs.owed_by_all.Given as goal
 
 abbrev pub invariant-loop-q : goal.invariant-loop-q
-invariant-loop-q l = (l.owed ≡ total l.q (λ q. total l.netlist.size.colours (λ d. below_zero (get_or l.weights (8 * q + d) (pos 0)) * capacity (row l.netlist.table.bytes.now q)))) × (l.owed ≤ 2 ^ 51 * l.q)
+invariant-loop-q l = (l.owed ≡ total l.q (λ q. total l.netlist.size.colours (λ d. below_zero (get_or l.weights.entries.now (8 * q + d) (pos 0)) * capacity (row l.netlist.table.bytes.now q)))) × (l.owed ≤ 2 ^ 51 * l.q)

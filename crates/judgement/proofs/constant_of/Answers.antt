@@ -13,7 +13,7 @@ use Rattle.judgement.specs.Judged.{share_of}
 use Rattle.judgement.proofs.constant_of.Goals as goal
 
 pub loop-q-init : goal.loop-q-init
-loop-q-init c = (sym (sum-none (share_of c.args.netlist.now.table.bytes.now c.args.weights.now)), omega arith)
+loop-q-init c = (sym (sum-none (share_of c.args.netlist.now.table.bytes.now c.args.weights.now.entries.now)), omega arith)
 
 pub overflow_add-constant : goal.overflow_add-constant
 overflow_add-constant c =
@@ -22,7 +22,7 @@ overflow_add-constant c =
 pub loop-q-preserved : goal.loop-q-preserved
 loop-q-preserved c = let i = c.loop-q.invariant in
     let q = c.loop-q.q in
-    let f = share_of c.args.netlist.now.table.bytes.now c.args.weights.now in
+    let f = share_of c.args.netlist.now.table.bytes.now c.args.weights.now.entries.now in
     let e = held (to_z w64 c.loop-q.constant-bits) c.share-constant.result (2 ^ 48 * q) (2 ^ 48) i.1 c.share-constant.ensures.near (omega (arith, (accepted_netlist c.args.netlist.now.accepted).facts.few_rows)) in (
       e ∙ ap (λ (z : ℤ). z +ℤ c.share-constant.result) i.0 ∙ ap (λ (z : ℤ). sum_to q f +ℤ z) c.share-constant.ensures.value ∙ sym (sum_more q f),
       omega (arith, ap nat_abs e, nat_abs-add (to_z w64 c.loop-q.constant-bits) c.share-constant.result, c.share-constant.ensures.near, i.1),

@@ -3,7 +3,14 @@ use Rattle.wiring.specs.Signals.{end_of}
 use Rattle.netlist.specs.View.{facts_of}
 use Rattle.netlist.proofs.Whole.{accepted_fabric}
 use Rattle.plan.specs.Plan.{planned}
+use Rattle.plan.proofs.Plan.{stands}
 use Rattle.plan.proofs.place_at.Goals as goal
+
+pub bounds-fabric-signal : goal.bounds-fabric-signal
+bounds-fabric-signal c =
+    let fabric = c.args.fabric.now in
+    let a = accepted_fabric fabric.wires in
+    stands fabric.ends.now _ _ (a.wires.matched.at _ (a.wires.sorted.below c.args.i c.requires))
 
 pub returns : goal.returns
 unfolding planned

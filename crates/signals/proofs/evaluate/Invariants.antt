@@ -3,4 +3,4 @@ use Rattle.signals.proofs.Found.{Finding}
 use Rattle.signals.proofs.evaluate.Given as goal
 
 abbrev pub invariant-loop-place : goal.invariant-loop-place
-invariant-loop-place l = Finding (facts_of l.netlist) l.places l.state l.choices l.fn.signals l.signals l.place-index
+invariant-loop-place l = Finding (facts_of l.netlist) l.places l.state l.choices l.initial.channels l.channels l.place-index

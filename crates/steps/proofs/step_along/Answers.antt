@@ -14,9 +14,9 @@ evaluate-requires-clause-ready c =
 pub update-requires-clause-updatable : goal.update-requires-clause-updatable
 update-requires-clause-updatable c =
     let a = c.args in
-    updatable (facts_of a.netlist.now) _ _ a.state.now a.choices.now (along-steps c.requires.along) _ _ c.evaluate.ensures
+    rw (c.draft.ensures.0, c.draft.ensures.1) (updatable (facts_of a.netlist.now) _ _ a.state.now a.choices.now (along-steps c.requires.along) _ _ c.evaluate.ensures)
 
 pub returns-clause-state : goal.returns-clause-state
 returns-clause-state c =
     let a = c.args in
-    c.update.ensures ∙ next-from (facts_of a.netlist.now) _ _ a.state.now a.choices.now (along-steps c.requires.along) _ _ c.evaluate.ensures
+    rw (c.draft.ensures.0, c.draft.ensures.1) at c.update.ensures ∙ next-from (facts_of a.netlist.now) _ _ a.state.now a.choices.now (along-steps c.requires.along) _ _ c.evaluate.ensures

@@ -1,7 +1,7 @@
 -- The table of ports agrees with the kinds' table and rules: each line computed.
 use mathlib.Core.Path.{◌≡◌, refl}
-use mathlib.Core.List.{[], ◌∷◌}
-use Prim.Native.Nat.{ℕ, ◌+◌, ◌*◌}
+use mathlib.Core.List.{List, [], ◌∷◌}
+use Prim.Native.Nat.{ℕ}
 use lib.ListN.{get_or}
 use denote.Enum.Declared.{tag_of}
 use Rattle.component.specs.contracts.kinds.Kind as kinds
@@ -15,8 +15,8 @@ use Rattle.wiring.specs.Signals.{depends_on}
 use Rattle.wiring.specs.Ports.{port_code}
 use Rattle.wiring.proofs.port_code.Goals as goal
 
-line : (kind : Kind) (port : Port) → get_or {A = ℕ} (16 ∷ 0 ∷ 0 ∷ 32 ∷ 0 ∷ 0 ∷ 32 ∷ 16 ∷ 0 ∷ 34 ∷ 24 ∷ 0 ∷ 35 ∷ 25 ∷ 26 ∷ 37 ∷ 41 ∷ 28 ∷ 43 ∷ 24 ∷ 24 ∷ 45 ∷ 45 ∷ 28 ∷ [])
-    (3 * tag_of kinds.the_type kind + tag_of ports.the_type port) 0 ≡ port_code kind port
+line : (kind : Kind) (port : Port) → get_or {A = ℕ} (get_or {A = List ℕ} ((16 ∷ 0 ∷ 0 ∷ []) ∷ (32 ∷ 0 ∷ 0 ∷ []) ∷ (32 ∷ 16 ∷ 0 ∷ []) ∷ (34 ∷ 24 ∷ 0 ∷ []) ∷ (35 ∷ 25 ∷ 26 ∷ []) ∷ (37 ∷ 41 ∷ 28 ∷ []) ∷ (43 ∷ 24 ∷ 24 ∷ []) ∷ (45 ∷ 45 ∷ 28 ∷ []) ∷ [])
+    (tag_of kinds.the_type kind) []) (tag_of ports.the_type port) 0 ≡ port_code kind port
 unfolding port_use depends_on
 line Source A = refl
 line Source B = refl
