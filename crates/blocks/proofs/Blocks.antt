@@ -112,7 +112,7 @@ module _ (file : List ℕ) {b : ℕ} (w : Walked file b) where
     unfolding bad_blocks
     bad-many e = ap (λ (x : Bool). x || some_overlong file || not_filled file) (lt-ltb most_blocks (blocks file) (omega (arith, counted)))
 
-    bad-count : most_terms < term_count file (block_start file b) → bad_blocks file ≡ true
+    pub bad-count : most_terms < term_count file (block_start file b) → bad_blocks file ≡ true
     unfolding bad_blocks overlong
     bad-count c =
         ap (λ (x : Bool). too_many file || x || not_filled file) (lt-ltb (least (overlong file) (blocks file)) (blocks file) (pick (dec_lt (least (overlong file) (blocks file)) (blocks file))))
@@ -125,7 +125,7 @@ module _ (file : List ℕ) {b : ℕ} (w : Walked file b) where
         pick (yes m) = m
         pick (no m) = absurd (true≢false (sym over ∙ least-before (overlong file) (blocks file) b (omega (arith, counted))))
 
-    bad-end : b < most_blocks → length file < block_start file b + 2 + 4 * term_count file (block_start file b) → bad_blocks file ≡ true
+    pub bad-end : b < most_blocks → length file < block_start file b + 2 + 4 * term_count file (block_start file b) → bad_blocks file ≡ true
     unfolding bad_blocks
     bad-end few e =
         let past : length file < block_start file (b + 1) = omega (arith, start-more file b) in

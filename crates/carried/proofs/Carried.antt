@@ -1,7 +1,7 @@
 -- Laws of the byte sum that pack carries. Assumes nothing.
 use mathlib.Core.Path.{◌≡◌, refl, ap, ap₂, sym, subst, ◌∙◌}
 use Prim.Native.Nat.{ℕ, ◌+◌, ◌*◌, ◌%◌, ◌≤◌}
-use native.Mathlib.Nat.{mod-add-mod}
+use native.Mathlib.Nat.{zero-add, mod-add-mod, le_of_eq}
 use native.Mathlib.Omega.{arith}
 use mathlib.Core.List.{List, [], ◌∷◌, ◌++◌, append_assoc, append-nil}
 use borrow.Rule.Slice.PartMut.{put_mid}
@@ -23,6 +23,20 @@ unfolding carried_sum
 carried_none o = ap (λ (l : List ℕ). sum l % 256) (ap (λ (l : List ℕ). take check_place o ++ l) (slice_empty header_size o) ∙ append-nil (take check_place o))
 
 -- ---- header bytes 0 to 2, laid
+-- the sum starts at 0
+pub from_zero : (s x : ℕ) → s ≡ (0 + x) % 256 → s ≡ x % 256
+from_zero s x e = e ∙ ap (λ (y : ℕ). y % 256) (zero-add x)
+
+-- three bytes pasted at the front stand there, with the rest as it was, and their sum is the sum carried
+pub front-laid : (h o o₁ : List ℕ) (s : ℕ) → length h ≡ check_place → s ≡ sum (take check_place h) % 256 → o₁ ≡ paste o 0 h check_place
+    → (o₁ ≡ h ++ drop check_place o) × (s ≡ carried_sum o₁ 0)
+front-laid h o o₁ s three es e =
+    let all : take check_place h ≡ h = take_all check_place h (le_of_eq three) in
+    let put : o₁ ≡ h ++ drop check_place o = e ∙ ap (λ (l : List ℕ). l ++ drop check_place o) all in
+    let same : take check_place h ≡ take check_place o₁ = rw (all, put) (sym (take_at h (drop check_place o) check_place three)) in
+    (put, es ∙ ap (λ (l : List ℕ). sum l % 256) same ∙ sym (carried_none o₁))
+
+-- the sum of the header's bytes, where what was read of it is the header
 pub front_counted : (h rest : List ℕ) {l : List ℕ} {r : ℕ} → length h ≡ check_place → l ≡ h → r ≡ sum h % 256 → r ≡ carried_sum (l ++ rest) 0
 front_counted h rest three e counted = counted ∙ rw e (sym (carried_none (h ++ rest) ∙ ap (λ (l : List ℕ). sum l % 256) (take_at h rest check_place three)))
 

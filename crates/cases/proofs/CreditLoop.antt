@@ -45,7 +45,11 @@ unfolding credit_file credit_table packed_file header_bytes header_fields record
 credit-reads = refl
 
 -- ---- the hypothesis records hold of the credit loop
--- what `read` promises of the fabric of a file
+-- what reading a file gives of ends and an order: if the file is accepted, all that an accepted fabric gives
+abbrev pub ReadOf : List ℕ → List ℕ → List ℕ → Type 0
+ReadOf file ends order = (s : Size) → reading file ≡ Ok s → AcceptedFabric (netlist_of s (open_table file s.components)) ends order
+
+-- it holds of the ends and the order of the fabric that `read` answers
 module _ (file : List ℕ) (fabric : Fabric) (answer : size_of (Ok fabric) ≡ reading file) (table : fabric.netlist.table.bytes.now ≡ open_table file fabric.netlist.size.components) where
   pub read-accepted : (size : Size) → reading file ≡ Ok size → AcceptedFabric (netlist_of size (open_table file size.components)) fabric.ends.now fabric.order.now
   read-accepted size reads =
@@ -53,10 +57,14 @@ module _ (file : List ℕ) (fabric : Fabric) (answer : size_of (Ok fabric) ≡ r
       subst (λ (s : Size). AcceptedFabric (netlist_of s (open_table file s.components)) fabric.ends.now fabric.order.now) same
       (subst (λ (t : List ℕ). AcceptedFabric (netlist_of fabric.netlist.size t) fabric.ends.now fabric.order.now) table (accepted_fabric fabric.wires))
 
--- all that an accepted fabric gives, of what `read` lays down for it
-pub credit-accepted : (fabric : Fabric) → size_of (Ok fabric) ≡ reading credit_file → fabric.netlist.table.bytes.now ≡ open_table credit_file fabric.netlist.size.components
+-- all that an accepted fabric gives, of any ends and order that reading it gives
+pub credit-accepted : (ends order : List ℕ) → ReadOf credit_file ends order → AcceptedFabric (netlist 1 6 6 (open_table credit_file 6)) ends order
+credit-accepted ends order r = r (sized 1 6 6) credit-reads
+
+-- and of the fabric that `read` answers
+pub credit-fabric-accepted : (fabric : Fabric) → size_of (Ok fabric) ≡ reading credit_file → fabric.netlist.table.bytes.now ≡ open_table credit_file fabric.netlist.size.components
     → AcceptedFabric (netlist 1 6 6 (open_table credit_file 6)) fabric.ends.now fabric.order.now
-credit-accepted fabric answer table = read-accepted credit_file fabric answer table (sized 1 6 6) credit-reads
+credit-fabric-accepted fabric answer table = credit-accepted fabric.ends.now fabric.order.now (read-accepted credit_file fabric answer table)
 
 credit-header-read : header_read (header_fields credit_file) credit_file ≡ Ok (sized 1 6 6)
 unfolding credit_file credit_table packed_file header_bytes header_fields header_read records record_bytes

@@ -47,7 +47,7 @@ use Rattle.inside.specs.Inside.{Inside}
 use Rattle.inside.proofs.Inside.{inside-start}
 use Rattle.cases.specs.CreditLoop.{credit_table, credit_file}
 use Rattle.cases.specs.EightKinds.{eight_table, eight_file}
-use Rattle.cases.proofs.CreditLoop.{read-accepted, credit-accepted}
+use Rattle.cases.proofs.CreditLoop.{ReadOf, read-accepted, credit-accepted}
 use Rattle.cases.proofs.EightKinds.{eight-reads}
 
 -- what an accepted fabric gives under choices that none refuses
@@ -85,10 +85,14 @@ credit-choices : bad_choice (netlist 1 6 6 (open_table credit_file 6)) credit_ch
 unfolding bad_choice choice_at good_choice least credit_file credit_table packed_file header_bytes records record_bytes record_row open_table kind_of
 credit-choices = refl
 
-pub credit-steps : (fabric : Fabric) → size_of (Ok fabric) ≡ reading credit_file → fabric.netlist.table.bytes.now ≡ open_table credit_file fabric.netlist.size.components → (state : List ℕ) → 384 ≤ length state
+pub credit-steps : (ends order : List ℕ) → ReadOf credit_file ends order → (state : List ℕ) → 384 ≤ length state
+    → CanStep (netlist 1 6 6 (open_table credit_file 6)) ends order (started (netlist 1 6 6 (open_table credit_file 6)) state) credit_choices
+credit-steps ends order r state l = steps-met (netlist 1 6 6 (open_table credit_file 6)) ends order (credit-accepted ends order r) credit_choices refl credit-choices state l
+
+-- and from the fabric that `read` answers
+pub credit-fabric-steps : (fabric : Fabric) → size_of (Ok fabric) ≡ reading credit_file → fabric.netlist.table.bytes.now ≡ open_table credit_file fabric.netlist.size.components → (state : List ℕ) → 384 ≤ length state
     → CanStep (netlist 1 6 6 (open_table credit_file 6)) fabric.ends.now fabric.order.now (started (netlist 1 6 6 (open_table credit_file 6)) state) credit_choices
-credit-steps fabric answer table state l =
-    steps-met (netlist 1 6 6 (open_table credit_file 6)) fabric.ends.now fabric.order.now (credit-accepted fabric answer table) credit_choices refl credit-choices state l
+credit-fabric-steps fabric answer table state l = credit-steps fabric.ends.now fabric.order.now (read-accepted credit_file fabric answer table) state l
 
 -- its colour sets in lent bytes: colour 0 on each channel
 credit-masks : up_to 6 (set_byte (netlist 1 6 6 (open_table credit_file 6))) ≡ replicate 6 128
@@ -106,7 +110,11 @@ eight-choices : bad_choice (netlist 2 10 9 (open_table eight_file 9)) eight_choi
 unfolding bad_choice choice_at good_choice least eight_file eight_table packed_file header_bytes records record_bytes record_row open_table kind_of
 eight-choices = refl
 
-pub eight-steps : (fabric : Fabric) → size_of (Ok fabric) ≡ reading eight_file → fabric.netlist.table.bytes.now ≡ open_table eight_file fabric.netlist.size.components → (state : List ℕ) → 576 ≤ length state
+pub eight-steps : (ends order : List ℕ) → ReadOf eight_file ends order → (state : List ℕ) → 576 ≤ length state
+    → CanStep (netlist 2 10 9 (open_table eight_file 9)) ends order (started (netlist 2 10 9 (open_table eight_file 9)) state) eight_choices
+eight-steps ends order r state l = steps-met (netlist 2 10 9 (open_table eight_file 9)) ends order (r (sized 2 10 9) eight-reads) eight_choices refl eight-choices state l
+
+-- and from the fabric that `read` answers
+pub eight-fabric-steps : (fabric : Fabric) → size_of (Ok fabric) ≡ reading eight_file → fabric.netlist.table.bytes.now ≡ open_table eight_file fabric.netlist.size.components → (state : List ℕ) → 576 ≤ length state
     → CanStep (netlist 2 10 9 (open_table eight_file 9)) fabric.ends.now fabric.order.now (started (netlist 2 10 9 (open_table eight_file 9)) state) eight_choices
-eight-steps fabric answer table state l =
-    steps-met (netlist 2 10 9 (open_table eight_file 9)) fabric.ends.now fabric.order.now (read-accepted eight_file fabric answer table (sized 2 10 9) eight-reads) eight_choices refl eight-choices state l
+eight-fabric-steps fabric answer table state l = eight-steps fabric.ends.now fabric.order.now (read-accepted eight_file fabric answer table) state l

@@ -29,7 +29,7 @@ use Rattle.flows.specs.Flows.{flow_sum, weight, entry, accepted_sum, constant}
 use Rattle.flows.specs.Verdict.{bad_term, is_left, is_weight, constant_by, table_by}
 use Rattle.stepping.specs.Calls.{start_verdict, state_after_start, step_verdict, state_after_step, moves_after_step}
 use Rattle.checking.specs.Check.{check_verdict, check_constant, weights_after_check}
-use Rattle.std.specs.Fmt.{digits}
+use Rattle.lines.specs.Decimal.{spelled, decimal}
 use Rattle.lines.specs.Listing.{weight_line, weight_lines, sum_line, text_by, listing_of, listing}
 use Rattle.cases.specs.CreditLoop.{credit_table, credit_file, fork_into_join}
 use Rattle.cases.specs.Starred.{answer_to, starred}
@@ -40,5 +40,5 @@ unfolding starred credit_table credit_file fork_into_join packed_file header_byt
     end_of dependence depends_on near_of least count any walks has_circle row_ok kind_of port_of port_use uses_first_map uses_second_map uses_mask is_source is_queue packed netlist_in start_verdict
     state_after_start step_verdict state_after_step moves_after_step check_verdict check_constant weights_after_check started cells start_at start_cell cell_with queue_colours good_choice choice_at
     bad_choice good_byte all good_cell bad_component cell_next next_at state_next next moves moved value val rule_of rule sum_to is_zero side has_index has_equation factor component_of index
-    multiplier flow_sum weight entry accepted_sum constant bad_term passed round rounds reachable is_left is_weight constant_by up_to table_by digits weight_line weight_lines sum_line text_by listing_of listing
+    multiplier flow_sum weight entry accepted_sum constant bad_term passed round rounds reachable is_left is_weight constant_by up_to table_by spelled decimal weight_line weight_lines sum_line text_by listing_of listing
 all-starred = refl

@@ -1,10 +1,14 @@
 -- What unpack comes to. Assumes nothing.
 use mathlib.Core.Path.{sym}
-use Rattle.std.proofs.Common.{Result, Ok, Err}
+use native.Mathlib.Omega.{arith}
+use Rattle.std.proofs.Common.{Result, Ok, Err, append-nil}
+use Rattle.std.proofs.Math.Seq.{drop-length}
+use Rattle.digits.specs.UpTo.{up_to}
+use Rattle.digits.proofs.UpTo.{filled_is}
 use mathlib.Core.Path.{◌≡◌, refl, ap, ◌∙◌}
 use Prim.Native.Nat.{ℕ, ◌*◌}
-use mathlib.Core.List.{List, [], ◌∷◌}
-use lib.ListN.{length}
+use mathlib.Core.List.{List, [], ◌∷◌, ◌++◌}
+use lib.ListN.{length, get_or}
 use lib.Dec.{ltb}
 use Rattle.refusals.specs.Refusals.{test, first_refusal}
 use Rattle.refusals.specs.Room.{room_for}
@@ -16,6 +20,11 @@ use Rattle.netlist.specs.declared.Size.{Size}
 use Rattle.reader.specs.File.{header_fields, components_in, size_in, file_tests}
 use Rattle.reader.specs.Reading.{read_as, reading}
 use Rattle.fabric.specs.Calls.{unpacked, table_after, unpacked_table}
+
+-- a list, place by place
+pub put_all : (s : List ℕ) → up_to (length s) (λ i. get_or s i 0) ≡ s
+put_all s =
+    sym (filled_is (λ i. get_or s i 0) s 0 (length s) (omega arith) (λ i l. refl) ∙ ap (λ (t : List ℕ). up_to (length s) (λ i. get_or s i 0) ++ t) (drop-length s) ∙ append-nil _)
 
 module _ (file : List ℕ) where
   -- the last test of unpack

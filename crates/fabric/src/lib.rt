@@ -29,6 +29,18 @@ pub fn unpack_answer(file: &[u8], space: usize) -> Result<Size, Refusal>
     Ok(size)
 }
 
+// The bytes of a slice at the front of lent memory, one by one. With std's `copy_from_slice` the archive would ask the C library for memmove here, since it is not known where the rows lie; a
+// host need have memcpy and memset alone.
+#[tactic(auto, using(digits::proofs::UpTo::filled_more), unfolding(digits::specs::UpTo::up_to))]
+fn put_front(from: &[u8], to: &mut [u8])
+    requires { length from.now ≤ length to.old }
+    ensures { to.new ≡ from.now ++ drop (length from.now) to.old }
+{
+    for i in 0..from.len() {
+        to[i] = from[i];
+    }
+}
+
 /// Writes the open table of a file.
 #[tactic(auto, using(crate::proofs::Unpacked::unpacked_roomy, crate::proofs::Unpacked::table_roomy))]
 pub fn unpack(file: &[u8], table: &mut [u8]) -> Result<Size, Refusal>
@@ -39,7 +51,7 @@ pub fn unpack(file: &[u8], table: &mut [u8]) -> Result<Size, Refusal>
     let netlist = buffers.read(file)?.netlist;
     let rows = netlist.table.bytes;
     room_for(table.len(), rows.len())?;
-    table[..rows.len()].copy_from_slice(rows);
+    put_front(rows, table);
     Ok(netlist.size)
 }
 

@@ -12,8 +12,15 @@ use borrow.Author.Tests.{lt-ltb, le-ltb}
 use Rattle.digits.proofs.Bools.{and-true}
 use Rattle.component.specs.declared.kinds.Kind.{Kind}
 use Rattle.component.specs.declared.kinds.Kind.TheVariants.{Source, Sink, Queue, Function, Fork, Join, Switch, Merge}
+use Rattle.component.specs.Kind.{kind_of}
 use Rattle.component.specs.Row.{kind}
+use Rattle.component.proofs.ByKind.{middle-kind}
 use Rattle.cells.specs.Good.{good_byte, all, good_cell}
+
+-- byte 0 of function, fork, join and switch is good if it is 0
+pub first_rest : (k : ℕ) (r : List ℕ) (c n b : ℕ) → (k ≡ 0 → ⊥) → (k ≡ 1 → ⊥) → (k ≡ 2 → ⊥) → k < 7 → eqb b 0 ≡ good_byte (kind_of k) r c n 0 b
+unfolding good_byte
+first_rest k r c n b = middle-kind (λ d. eqb b 0 ≡ good_byte d r c n 0 b) refl refl refl refl k
 
 later-rest : (d : Kind) (r : List ℕ) (c n j b : ℕ) → (d ≡ Queue → ⊥) → eqb b 0 ≡ good_byte d r c n (suc j) b
 unfolding good_byte

@@ -38,6 +38,12 @@ held-b zero choice a b l = absurd (omega arith)
 held-b (suc zero) choice a b l = absurd (omega arith)
 held-b (suc (suc h)) choice a b l = refl
 
+-- a pick held is none, A or B: what each of the three gives holds
+pub by-held : {P : Type 0} (h : ℕ) → (h ≡ 0 → P) → (h ≡ 1 → P) → (1 < h → P) → P
+by-held zero none held_a held_b = none refl
+by-held (suc zero) none held_a held_b = held_a refl
+by-held (suc (suc h)) none held_a held_b = held_b (omega arith)
+
 -- it is 0 or 1
 pub picks-le : (h choice a b : ℕ) → picks_b h choice a b ≤ 1
 unfolding picks_b

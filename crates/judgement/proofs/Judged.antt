@@ -147,7 +147,7 @@ if-ok (Err r) h = tt
 
 -- ---- with room for so many entries
 module _ (f : Netlist) (p : List ℕ) (space : ℕ) where
-  within-is : and_then (judged f p) (room_for space (8 * f.components)) ≡ judged_within f p space
+  pub within-is : and_then (judged f p) (room_for space (8 * f.components)) ≡ judged_within f p space
   unfolding judged_within judged
   within-is = room-last (judge_tests f p) space (8 * f.components)
 

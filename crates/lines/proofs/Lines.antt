@@ -7,33 +7,31 @@ use native.Mathlib.Nat.{add-zero, add-suc}
 use native.Mathlib.Omega.{arith}
 use lib.ListN.{length, length-append}
 use lib.IntN.{ℤ, pos, negsuc}
-use lib.Signed.{mag}
 use Rattle.std.specs.Prelude.{if◌then◌else◌}
-use Rattle.std.specs.Fmt.{signed_decimal}
 use Rattle.std.specs.Ordering.{int_eq}
-use Rattle.std.proofs.lemmas.Fmt.{length-decimal-le, length-decimal-le_wide}
+use Rattle.lines.specs.Decimal.{integer}
 use Rattle.lines.specs.Listing.{text_field, weight_line, weight_lines}
+use Rattle.lines.proofs.Decimal.{decimal-short, decimal-few}
 
 pub line-none : (u : ℕ) (w : ℤ) → w ≡ pos 0 → weight_line u w ≡ []
 unfolding weight_line
 line-none u w e = rw e
 
--- a number of 20 digits at most, as every 64-bit number is
-signed-few : (z : ℤ) → mag z + 1 < 10 ^ 20 → length (signed_decimal z) ≤ 21
-signed-few (pos n) f = omega (arith, length-decimal-le_wide 20 n (omega arith) (omega arith) (omega arith))
-signed-few (negsuc n) f = omega (arith, length-decimal-le_wide 20 (suc n) (omega arith) (omega arith) (omega arith))
+integer-few : (z : ℤ) → length (integer z) ≤ 21
+integer-few (pos n) = omega (arith, decimal-few n)
+integer-few (negsuc n) = omega (arith, decimal-few (suc n))
 
--- the line of such a weight, of a table of 1,024
-pub line-short : (u : ℕ) (w : ℤ) → u < 1024 → mag w + 1 < 10 ^ 20 → length (weight_line u w) ≤ 30
+-- the line of any weight, of a table of 1,024
+pub line-short : (u : ℕ) (w : ℤ) → u < 1024 → length (weight_line u w) ≤ 30
 unfolding weight_line
-line-short u w h f = go (int_eq w (pos 0))
+line-short u w h = go (int_eq w (pos 0))
   where
     go : (b : Bool) → length (if b then [] else (81 ∷ [] ++ text_field (pos (u / 8)) ++ text_field (pos (u % 8)) ++ text_field w ++ 10 ∷ [])) ≤ 30
     go true = omega arith
     go false =
-        let a = length-decimal-le 3 (u / 8) (omega arith) (omega arith) (omega arith) in
-        let b = length-decimal-le 1 (u % 8) (omega arith) (omega arith) (omega arith) in
-        simp length-append (omega (arith, a, b, signed-few w f))
+        let a : u / 8 < 10 ^ 3 = omega arith in
+        let b : u % 8 < 10 ^ 1 = omega arith in
+        simp length-append (omega (arith, decimal-short 2 (u / 8) a, decimal-short 0 (u % 8) b, integer-few w))
 
 pub lines_same : (n : ℕ) (v w : ℕ → ℤ) → ((u : ℕ) → u < n → v u ≡ w u) → weight_lines n v ≡ weight_lines n w
 unfolding weight_lines

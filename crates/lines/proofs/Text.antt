@@ -4,7 +4,7 @@ use mathlib.Core.List.{List, ◌++◌}
 use Prim.Native.Nat.{ℕ, ◌+◌, ◌*◌, ◌-◌, ◌≤◌, ◌<◌}
 use native.Mathlib.Decide.{dec_lt}
 use native.Mathlib.Omega.{arith}
-use lib.ListN.{length, get_or, drop, replicate, length-append, length-replicate, get_or-replicate, get_or-eq_default}
+use lib.ListN.{length, get_or, take, drop, replicate, length-append, length-replicate, get_or-replicate, get_or-eq_default}
 use lib.Seq.{get_or-drop, get_or-append-add}
 use lib.IntN.{ℤ, pos}
 use Rattle.std.specs.Prelude.{Result, Ok, Err}
@@ -18,11 +18,12 @@ use Rattle.reader.specs.File.{netlist_in}
 use Rattle.reader.proofs.Exists.{accepted-exists}
 use Rattle.reader.proofs.Opened.{netlist-is}
 use Rattle.flows.specs.Flows.{entry, constant}
-use Rattle.flows.specs.Verdict.{giving, constant_by}
+use Rattle.flows.specs.Verdict.{giving, constant_by, table_by}
 use Rattle.judgement.specs.Entries.{entries_filled}
 use Rattle.judgement.specs.Judged.{written_by}
-use Rattle.checking.specs.Check.{check_verdict, check_constant}
-use Rattle.lines.specs.Listing.{weight_lines, sum_line, refusal_line, room, text_by, listing_of}
+use Rattle.judgement.proofs.Judged.{table-written}
+use Rattle.checking.specs.Check.{check_verdict, check_constant, weights_after_check}
+use Rattle.lines.specs.Listing.{weight_lines, sum_line, refusal_line, room, text_by, listing_of, listing}
 use Rattle.lines.proofs.Lines.{lines_same, lines-past}
 
 -- the table as it is lent to check
@@ -59,42 +60,74 @@ module _ (file p : List ℕ) where
   unfolding listing_of
   text-by e = ap (λ (v : Result Unit Refusal). text_by (giving v (check_constant file p 1024)) (8 * (netlist_in file).components) (entry (netlist_in file) p)) e
 
-  pub text-refused : {r : Refusal} → check_verdict file p 1024 ≡ Err r → listing_of file p ≡ refusal_line (refusal_number r) (refusal_place r)
+  -- longer files are cut
+  whole : (fabric proof : List ℕ) → file ≡ take 1669 fabric → p ≡ take 16385 proof → listing_of file p ≡ listing fabric proof
+  unfolding listing
+  whole fabric proof ef ep = ap₂ listing_of ef ep
+
+  listed-refused : {r : Refusal} → check_verdict file p 1024 ≡ Err r → listing_of file p ≡ refusal_line (refusal_number r) (refusal_place r)
   unfolding text_by
-  text-refused e = text-by e
+  listed-refused e = text-by e
 
-  pub text-accepted : check_verdict file p 1024 ≡ Ok tt → listing_of file p ≡ weight_lines (8 * (netlist_in file).components) (entry (netlist_in file) p) ++ sum_line (check_constant file p 1024)
-  unfolding text_by
-  text-accepted e = text-by e
+  -- the text of a refused proposal, with the number and the place of the refusal
+  pub text-refused : {r : Refusal} → check_verdict file p 1024 ≡ Err r
+      → (listing_of file p ≡ refusal_line (refusal_number r) (refusal_place r))
+      × ((fabric proof : List ℕ) → file ≡ take 1669 fabric → p ≡ take 16385 proof → (n k : ℕ) → n ≡ refusal_number r → k ≡ refusal_place r → refusal_line n k ≡ listing fabric proof)
+  text-refused e = (listed-refused e, λ fabric proof ef ep n k en ek. ap₂ refusal_line en ek ∙ sym (listed-refused e) ∙ whole fabric proof ef ep)
 
-  -- K, where the call is accepted
-  constant-is : check_verdict file p 1024 ≡ Ok tt → constant (netlist_in file) p ≡ check_constant file p 1024
-  unfolding check_constant constant_by
-  constant-is e = sym (ap (λ (v : Result Unit Refusal). constant_by v (netlist_in file) p) e)
+  module _ (e : check_verdict file p 1024 ≡ Ok tt) where
+    listed : listing_of file p ≡ weight_lines (8 * (netlist_in file).components) (entry (netlist_in file) p) ++ sum_line (check_constant file p 1024)
+    unfolding text_by
+    listed = text-by e
 
-  -- the lines of the whole table, as check leaves it
+    -- K
+    constant-is : constant (netlist_in file) p ≡ check_constant file p 1024
+    unfolding check_constant constant_by
+    constant-is = sym (ap (λ (v : Result Unit Refusal). constant_by v (netlist_in file) p) e)
+
+    module _ {w : List ℤ} (ew : w ≡ weights_after_check file p zeros) (long : length w ≡ 1024) where
+      weights-are : w ≡ table (entry (netlist_in file) p) (8 * (netlist_in file).components)
+      unfolding weights_after_check table_by
+      weights-are =
+          ew ∙ ap (λ (n : ℕ). table_by (check_verdict file p n) (netlist_in file) p zeros) (length-replicate 1024 (pos 0))
+          ∙ ap (λ (v : Result Unit Refusal). table_by v (netlist_in file) p zeros) e
+
+      lines_are : weight_lines (length w) (λ u. get_or w u (pos 0)) ≡ weight_lines (8 * (netlist_in file).components) (entry (netlist_in file) p)
+      lines_are =
+          ap (λ (t : List ℤ). weight_lines (length t) (λ u. get_or t u (pos 0))) weights-are
+          ∙ table-lines (entry (netlist_in file) p) (8 * (netlist_in file).components) (ap length (sym weights-are) ∙ long)
+
+      whole-lines : {k : ℤ} → k ≡ check_constant file p 1024 → weight_lines (length w) (λ u. get_or w u (pos 0)) ++ sum_line k ≡ listing_of file p
+      whole-lines ek = ap₂ ◌++◌ lines_are (ap sum_line ek) ∙ sym listed
+
+  -- the text of an accepted proposal: by the definitions, and by the table w as check leaves it and the constant
+  pub text-accepted : check_verdict file p 1024 ≡ Ok tt
+      → (listing_of file p ≡ weight_lines (8 * (netlist_in file).components) (entry (netlist_in file) p) ++ sum_line (check_constant file p 1024))
+      × ((w : List ℤ) → w ≡ weights_after_check file p zeros → length w ≡ 1024 → (k : ℤ) → k ≡ check_constant file p 1024
+      → (weight_lines (length w) (λ u. get_or w u (pos 0)) ++ sum_line k ≡ listing_of file p)
+      × ((fabric proof : List ℕ) → file ≡ take 1669 fabric → p ≡ take 16385 proof → weight_lines (length w) (λ u. get_or w u (pos 0)) ++ sum_line k ≡ listing fabric proof))
+  text-accepted e = (listed e, λ w ew long k ek. (whole-lines e ew long ek, λ fabric proof ef ep. whole-lines e ew long ek ∙ whole fabric proof ef ep))
+
+  -- the text of what check hands back and leaves
   pub text_checked : {o : Result ℤ Refusal} {w : List ℤ} → o ≡ giving (check_verdict file p 1024) (constant (netlist_in file) p) → w ≡ written_by entries_filled (check_verdict file p 1024) (netlist_in file) p zeros → length w ≡ 1024
       → text_by o (length w) (λ u. get_or w u (pos 0)) ≡ listing_of file p
-  unfolding text_by written_by entries_filled
+  unfolding text_by weights_after_check
   text_checked {o} {w} eo ew long = go (check_verdict file p 1024) refl
     where
       given : {v : Result Unit Refusal} → check_verdict file p 1024 ≡ v → o ≡ giving v (constant (netlist_in file) p)
       given e = eo ∙ ap (λ (v : Result Unit Refusal). giving v (constant (netlist_in file) p)) e
 
-      weights-are : check_verdict file p 1024 ≡ Ok tt → w ≡ table (entry (netlist_in file) p) (8 * (netlist_in file).components)
-      weights-are e = ew ∙ ap (λ (v : Result Unit Refusal). written_by entries_filled v (netlist_in file) p zeros) e
-
-      lines_are : check_verdict file p 1024 ≡ Ok tt → weight_lines (length w) (λ u. get_or w u (pos 0)) ≡ weight_lines (8 * (netlist_in file).components) (entry (netlist_in file) p)
-      lines_are e =
-          ap (λ (t : List ℤ). weight_lines (length t) (λ u. get_or t u (pos 0))) (weights-are e)
-          ∙ table-lines (entry (netlist_in file) p) (8 * (netlist_in file).components) (ap length (sym (weights-are e)) ∙ long)
+      left : w ≡ weights_after_check file p zeros
+      left =
+          ew ∙ table-written (check_verdict file p 1024) (netlist_in file) p zeros
+          ∙ sym (ap (λ (n : ℕ). table_by (check_verdict file p n) (netlist_in file) p zeros) (length-replicate 1024 (pos 0)))
 
       text : {r : Result ℤ Refusal} → o ≡ r → text_by o (length w) (λ u. get_or w u (pos 0)) ≡ text_by r (length w) (λ u. get_or w u (pos 0))
       text e = ap (λ (r : Result ℤ Refusal). text_by r (length w) (λ u. get_or w u (pos 0))) e
 
       go : (v : Result Unit Refusal) → check_verdict file p 1024 ≡ v → text_by o (length w) (λ u. get_or w u (pos 0)) ≡ listing_of file p
-      go (Ok tt) e = text (given e) ∙ ap₂ ◌++◌ (lines_are e) (ap sum_line (constant-is e)) ∙ sym (text-accepted e)
-      go (Err r) e = text (given e) ∙ sym (text-refused e)
+      go (Ok tt) e = text (given e) ∙ ((text-accepted e).1 w left long (constant (netlist_in file) p) (constant-is e)).0
+      go (Err r) e = text (given e) ∙ sym (text-refused e).0
 
 -- the table has room for the weights of every fabric that is read: the test of 23 is never met
 pub room-enough : (file : List ℕ) {s : Size} → reading file ≡ Ok s → 8 * (netlist_in file).components ≤ room

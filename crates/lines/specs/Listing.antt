@@ -1,6 +1,5 @@
 -- The text of the listing program, as a function of the contents of its two files.
 use Rattle.std.specs.Prelude.{if◌then◌else◌, List, [], ◌∷◌, ◌++◌, ℕ, zero, suc, ◌*◌, ◌/◌, ◌%◌, take, ℤ, pos, Result, Ok, Err}
-use Rattle.std.specs.Fmt.{signed_decimal}
 use Rattle.std.specs.Ordering.{int_eq}
 use Rattle.refusals.specs.Refusals.{refusal_number, refusal_place}
 use Rattle.refusals.specs.declared.Refusal.{Refusal}
@@ -8,10 +7,11 @@ use Rattle.reader.specs.File.{netlist_in}
 use Rattle.flows.specs.Flows.{entry}
 use Rattle.flows.specs.Verdict.{giving}
 use Rattle.checking.specs.Check.{check_verdict, check_constant}
+use Rattle.lines.specs.Decimal.{integer}
 
 -- a blank and a number
 abbrev pub text_field : ℤ → List ℕ
-text_field z = 32 ∷ signed_decimal z
+text_field z = 32 ∷ integer z
 
 -- `Q component colour weight` for weights other than 0; entry u is 8 times component plus colour
 unfoldable pub weight_line : ℕ → ℤ → List ℕ

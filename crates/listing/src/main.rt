@@ -5,7 +5,7 @@ ghost use Rattle.std.specs.Prelude.{◌≡◌, IfSome, IfOk, take};
 
 use arrayvec::ArrayVec;
 use std::fs;
-use std::io::{self, Read};
+use std::io::{self, Read, Write};
 
 // The first bytes that a reader gives, at most so many.
 fn first_bytes<R: Read + Drop, const MOST: usize>(reader: R) -> io::Result<ArrayVec<u8, MOST>>
@@ -27,5 +27,6 @@ fn file_start<const MOST: usize>(rt: &HostRuntime, path: &str) -> ArrayVec<u8, M
 fn main(rt: HostRuntime) -> io::Result<()> {
     let fabric = file_start::<1669>(&rt, "fabric.bin");
     let proof = file_start::<16385>(&rt, "proof.bin");
-    print!(rt; "{}", lines::listing(&fabric, &proof))
+    // In one write: what print! hands on comes in pieces, and a reader that goes after the first would leave the others behind.
+    io::writer(&rt).write_all(lines::listing(&fabric, &proof).as_bytes())
 }

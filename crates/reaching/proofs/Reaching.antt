@@ -1,6 +1,8 @@
 -- What `reach` comes to, by what reading comes to. Assumes nothing.
-use Rattle.std.proofs.Common.{◌≡◌, refl, ap, ◌∙◌, List, ℕ, length, take, drop, Result, Ok, Err}
-use lib.Seq.{take_at}
+use Rattle.std.proofs.Common.{◌≡◌, refl, ap, ◌∙◌, List, ℕ, ◌++◌, length, take, drop, Result, Ok, Err}
+use mathlib.Core.Path.{ap₂}
+use native.Mathlib.Nat.{zero-add}
+use lib.Seq.{paste, take_at}
 use Rattle.digits.specs.UpTo.{up_to}
 use Rattle.digits.proofs.UpTo.{length-up_to, filled_is}
 use Rattle.refusals.specs.Refusals.{first_refusal}
@@ -44,8 +46,12 @@ sets_by_reading file bytes =
     ap (λ (v : Result Unit Refusal). sets_by v (netlist_in file) bytes) (refusal-append (file_tests file) (reach_tests (netlist_in file) (length bytes)))
     ∙ written (first_refusal (file_tests file)) (size_in (header_fields file)) file bytes
 
--- the sets of the channels
-pub copied : (f : Netlist) {sets : List ℕ} → SetBytes f sets → take f.channels sets ≡ up_to f.channels (set_byte f)
-copied f {sets} h =
-    ap (λ (l : List ℕ). take f.channels l) (filled_is (set_byte f) sets 0 f.channels h.long h.at)
-    ∙ take_at (up_to f.channels (set_byte f)) (drop f.channels sets) f.channels (length-up_to (set_byte f) f.channels)
+-- the sets of the channels; and the memory that they are copied into, with the rest as it was
+pub copied : (f : Netlist) {sets : List ℕ} → SetBytes f sets
+    → (take f.channels sets ≡ up_to f.channels (set_byte f)) × ((out after : List ℕ) → after ≡ paste out 0 sets f.channels → after ≡ up_to f.channels (set_byte f) ++ drop f.channels out)
+copied f {sets} h = (taken, λ out after e. e ∙ ap₂ (λ (l : List ℕ) (k : ℕ). l ++ drop k out) taken (zero-add f.channels))
+  where
+    taken : take f.channels sets ≡ up_to f.channels (set_byte f)
+    taken =
+        ap (λ (l : List ℕ). take f.channels l) (filled_is (set_byte f) sets 0 f.channels h.long h.at)
+        ∙ take_at (up_to f.channels (set_byte f)) (drop f.channels sets) f.channels (length-up_to (set_byte f) f.channels)

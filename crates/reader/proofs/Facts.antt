@@ -114,6 +114,10 @@ unfolding record_row
 mask-byte file n k h = rw (row_open file n k h) (mod-lt _ (pow_pos 8))
 
 -- ---- the whole file
+-- what the header's fields come to, from what was read of them
+pub headed : (file : List ℕ) {h : List ℕ} {r x : Result Size Refusal} → h ≡ header_fields file → r ≡ header_read h file → r ≡ x → header_read (header_fields file) file ≡ x
+headed f eh er ex = ap (λ (h : List ℕ). header_read h f) (sym eh) ∙ sym er ∙ ex
+
 module _ (file : List ℕ) where
   -- the tests of the records, with a header's numbers
   abbrev records_of : Size → Result Unit Refusal

@@ -1,1 +1,2 @@
 pub mod Result
+pub mod Parts

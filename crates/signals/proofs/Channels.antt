@@ -2,7 +2,7 @@
 use mathlib.Core.Path.{◌≡◌, refl, sym}
 use mathlib.Core.Bool.{Bool, true, false, not}
 use mathlib.Core.List.{List}
-use Prim.Native.Nat.{ℕ, ◌+◌, ◌*◌, ◌/◌, ◌%◌, ◌<◌}
+use Prim.Native.Nat.{ℕ, zero, suc, ◌+◌, ◌*◌, ◌/◌, ◌%◌, ◌≤◌, ◌<◌}
 use native.Mathlib.Decide.{ℕ_discrete}
 use native.Mathlib.Omega.{arith}
 use lib.Dec.{eqb}
@@ -11,11 +11,17 @@ use lib.Seq.{get_or-set_same, get_or-set_other}
 use borrow.Author.Tests.{eqb-true, eqb-false}
 use Rattle.wiring.specs.Signals.{is_offer}
 use Rattle.held.specs.declared.Channel.{Channel}
-use Rattle.held.specs.Values.{offer_number, offer_of, bit}
+use Rattle.held.specs.Values.{offer_number, offer_of, bit, when}
 use Rattle.held.proofs.Values.{offer_of_number, flag_of_bit}
 use Rattle.signals.specs.declared.OfferOrTake.{OfferOrTake}
 use Rattle.signals.specs.declared.OfferOrTake.TheVariants.{Offer, Take}
 use Rattle.signals.specs.Channels.{no_channel, offer_in, take_in, signal_in, signal_number, offers}
+
+-- what moves, by a product: the offer if taken
+pub times-flag : (o t : ℕ) → t ≤ 1 → o * t ≡ when t o
+times-flag o zero h = omega arith
+times-flag o (suc zero) h = omega arith
+times-flag o (suc (suc t)) h = absurd (omega arith)
 
 -- the two signals of channel x
 pub offer_at : (channels : List Channel) (x : ℕ) → signal_in channels (2 * x) ≡ offer_in channels x

@@ -51,7 +51,7 @@ pub finding_none : {f : Netlist} {places : List Place} {state choices : List ℕ
 finding_none before l = record { planned = l; found = record { long = refl; found = λ j h. absurd (omega arith); rest = refl } }
 
 -- all of them
-found_all : {f : Netlist} {ends order state choices : List ℕ} {before now : List Channel} {i : ℕ} → AcceptedFabric f ends order → Found f order state choices before now i → 2 * f.channels ≤ i →
+pub found_all : {f : Netlist} {ends order state choices : List ℕ} {before now : List Channel} {i : ℕ} → AcceptedFabric f ends order → Found f order state choices before now i → 2 * f.channels ≤ i →
     f.channels ≤ length before → now ≡ up_to f.channels (channel_of f state choices) ++ drop f.channels before
 unfolding channel_of
 found_all {f} {ends} {order} {state} {choices} {before} {now} a o h l =
@@ -139,7 +139,7 @@ module _ {f : Netlist} {order : List ℕ} {i : ℕ} {p : Place} (l : Stands f or
       seen-near take_c = ap (take_in now) ports-are.2 ∙ sym (take_at now _)
 
       -- the rule gives the signal's value
-      value-is : signal_at p now f.table (cell state p.component) (get_or choices p.component 0) ≡ value f state choices t
+      pub value-is : signal_at p now f.table (cell state p.component) (get_or choices p.component 0) ≡ value f state choices t
       unfolding signals.rule_of
       value-is =
           rw (rule-is, component-is)

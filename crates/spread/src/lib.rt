@@ -1,24 +1,27 @@
-// Works out the colours that can reach each channel, by a list of components that have to pass on what came in.
+// Works out the colours that can reach each channel, by a stack of components that have to pass on what came in.
 #![tactic(auto)]
 
-ghost use Rattle.std.specs.Prelude.{◌≡◌, true, cond, [], ◌∷◌, ◌++◌, ◌&&◌, ◌||◌, ◌+◌, ◌≤◌, ◌<◌, eqb, ltb, length, get_or, set, None};
+ghost use Rattle.std.specs.Prelude.{◌≡◌, ◌⊎◌, ℕ, true, cond, [], ◌∷◌, ◌++◌, ◌&&◌, ◌||◌, ◌+◌, ◌≤◌, ◌<◌, eqb, ltb, length, get_or, set, None};
 ghost use Rattle.std.specs.Option.{ForSome};
 ghost use Rattle.record.specs.Table.{row};
 ghost use Rattle.component.specs.Kind.{port_use, is_output};
-ghost use Rattle.component.specs.Limits.{most_colours, most_flows};
+ghost use Rattle.component.specs.Limits.{most_colours, most_components};
 ghost use Rattle.component.specs.Row.{kind, map_of, filling, fill_colour, has_colour};
 ghost use Rattle.netlist.specs.Netlist.{netlist_of};
 ghost use Rattle.netlist.specs.View.{facts_of};
 ghost use Rattle.reach.specs.Rounds.{image, passed};
 ghost use Rattle.reach.specs.Known.{SetBytes};
-ghost use Rattle.spread.specs.Spread.{IsSet, Below, MapBelow, Targets, first_output, grown_set, listed, Spreading, PassedOn};
+ghost use Rattle.spread.specs.Spread.{IsSet, Below, MapBelow, Targets, first_output, grown_set, one_less, most_turns, listed, Spreading, PassedOn, Settled};
 
 use arrayvec::ArrayVec;
-use component::{Kind, MOST_FLOWS, Map, Port, Table};
+use component::{Kind, MOST_COMPONENTS, MOST_FLOWS, Map, Port, Table};
 use netlist::Netlist;
 
 /// A set for each channel that a byte can name.
 pub const SETS_SIZE: usize = 256;
+
+// A first turn for each component, and one more for each member that a set gets.
+const MOST_TURNS: usize = MOST_COMPONENTS + MOST_FLOWS;
 
 /// A netlist, and the bytes of its colour sets where they are worked out already.
 #[derive(Clone, Copy, Debug)]
@@ -159,60 +162,104 @@ fn first_output(kind: Kind) -> Port
 #[derive(Drop)]
 struct Spread {
     sets: [u8; SETS_SIZE],
-    waiting: ArrayVec<u8, MOST_FLOWS>,
+    // of each component, how many of its inputs are still to come; 0 from when it waits for its first turn
+    to_come: [u8; MOST_COMPONENTS],
+    waiting: ArrayVec<u8, MOST_TURNS>,
 }
 
 impl Spread {
-    // Adds colours to the set of channel x. If some are new, the component that takes from x has to wait for a turn, unless its turn is still to come.
-    fn add(&mut self, takers: &Takers, next: usize, x: usize, more: u8)
-        requires { (x < 256) × (listed self.old.sets takers.now.by_channel next x more ≡ true → length self.old.waiting.items < most_flows) }
+    // Adds colours to the set of channel x, whose giver has its turn. The component that takes from x waits for a turn once all its inputs have come; from then on, where some colours are new.
+    fn add(&mut self, takers: &Takers, x: usize, more: u8)
+        requires taker { (x < 256) × (get_or takers.now.by_channel x 0 < most_components) }
+        requires room { listed self.old.sets takers.now.by_channel self.old.to_come x more ≡ true → length self.old.waiting.items < most_turns }
         ensures sets { self.new.sets ≡ set self.old.sets x (grown_set self.old.sets x more) }
-        ensures waiting { self.new.waiting.items ≡ cond (listed self.old.sets takers.now.by_channel next x more) (self.old.waiting.items ++ get_or takers.now.by_channel x 0 ∷ []) self.old.waiting.items }
+        ensures to_come { self.new.to_come ≡ one_less self.old.to_come (get_or takers.now.by_channel x 0) }
+        ensures waiting { self.new.waiting.items ≡ cond (listed self.old.sets takers.now.by_channel self.old.to_come x more) (self.old.waiting.items ++ get_or takers.now.by_channel x 0 ∷ []) self.old.waiting.items }
     {
         let old = self.sets[x];
         let all = old | more;
-        if all == old {
-            return;
-        }
         self.sets[x] = all;
         let taker = takers.by_channel[x];
-        if (taker as usize) < next {
+        let left = self.to_come[taker as usize];
+        self.to_come[taker as usize] = left.saturating_sub(1);
+        if left == 1 || (left == 0 && all != old) {
             self.waiting.push(taker);
         }
     }
 
     // Adds what goes out at an output port of component k to the set there.
-    fn pass_out(&mut self, takers: &Takers, k: usize, port: Port, next: usize)
-        requires before { Spreading (facts_of takers.now.netlist) self.old.sets self.old.waiting.items }
-        requires turn { (k < next) × (next ≤ takers.now.netlist.size.components) }
+    fn pass_out(&mut self, takers: &Takers, k: usize, port: Port)
+        requires before { Spreading (facts_of takers.now.netlist) self.old.sets self.old.to_come self.old.waiting.items }
+        requires turn { (k < takers.now.netlist.size.components) × (get_or self.old.to_come k 0 ≡ 0) }
         requires output { is_output (port_use (kind (row takers.now.netlist.table.bytes.now k)) port) ≡ true }
-        ensures { PassedOn (facts_of takers.now.netlist) next self.old.sets self.old.waiting.items self.new.sets self.new.waiting.items (λ q. q ≡ port) k }
+        ensures { PassedOn (facts_of takers.now.netlist) self.old.sets self.old.to_come self.old.waiting.items self.new.sets self.new.to_come self.new.waiting.items (λ q. q ≡ port) k }
     {
         let table = takers.netlist.table;
         let a = self.sets[table.port(k, Port::A) as usize];
         let b = self.sets[table.port(k, Port::B) as usize];
         let more = let_out(&takers.netlist, k, port, a, b);
-        self.add(takers, next, table.port(k, port) as usize, more);
+        self.add(takers, table.port(k, port) as usize, more);
     }
 
     // The same at each output port of component k.
-    fn pass_on(&mut self, takers: &Takers, k: usize, next: usize)
-        requires before { Spreading (facts_of takers.now.netlist) self.old.sets self.old.waiting.items }
-        requires turn { (k < next) × (next ≤ takers.now.netlist.size.components) }
-        ensures { PassedOn (facts_of takers.now.netlist) next self.old.sets self.old.waiting.items self.new.sets self.new.waiting.items (λ q. is_output (port_use (kind (row takers.now.netlist.table.bytes.now k)) q) ≡ true) k }
+    fn pass_on(&mut self, takers: &Takers, k: usize)
+        requires before { Spreading (facts_of takers.now.netlist) self.old.sets self.old.to_come self.old.waiting.items }
+        requires turn { (k < takers.now.netlist.size.components) × (get_or self.old.to_come k 0 ≡ 0) }
+        ensures { PassedOn (facts_of takers.now.netlist) self.old.sets self.old.to_come self.old.waiting.items self.new.sets self.new.to_come self.new.waiting.items (λ q. is_output (port_use (kind (row takers.now.netlist.table.bytes.now k)) q) ≡ true) k }
     {
         let kind = takers.netlist.table.kind(k);
         if let Kind::Sink = kind {
             return;
         }
-        self.pass_out(takers, k, first_output(kind), next);
+        self.pass_out(takers, k, first_output(kind));
         if let Kind::Fork | Kind::Switch = kind {
-            self.pass_out(takers, k, Port::C, next);
+            self.pass_out(takers, k, Port::C);
+        }
+    }
+
+    // Gives component k its first turn, unless it had one, and then a turn to each that waits, until nothing is new.
+    fn start(&mut self, takers: &Takers, k: usize)
+        requires turn { k < takers.now.netlist.size.components }
+        requires before { Settled (facts_of takers.now.netlist) self.old.sets self.old.to_come self.old.waiting.items }
+        ensures after { Settled (facts_of takers.now.netlist) self.new.sets self.new.to_come self.new.waiting.items }
+        ensures due { (j : ℕ) → (j ≡ k) ⊎ (get_or self.old.to_come j 0 ≡ 0) → get_or self.new.to_come j 0 ≡ 0 }
+    {
+        if self.to_come[k] == 0 {
+            return;
+        }
+        self.to_come[k] = 0;
+        self.pass_on(takers, k);
+        while let Some(j) = self.waiting.pop() {
+            self.pass_on(takers, j as usize);
         }
     }
 }
 
-/// The sets of all channels, a mask byte each: each component passes on in turn what has come in, then each that waits, until nothing is new.
+// How many inputs a kind has; for a source 1, which never comes.
+fn inputs_of(kind: Kind) -> u8
+    ensures { 0 < result }
+{
+    match kind {
+        Kind::Join | Kind::Merge => 2,
+        _ => 1,
+    }
+}
+
+// The same of each component.
+#[tactic(auto, using(crate::proofs::WorkOut::inputs_more))]
+fn find_inputs(netlist: &Netlist) -> [u8; MOST_COMPONENTS]
+    ensures long { length result ≡ most_components }
+    ensures some { (k : ℕ) → k < netlist.now.size.components → 0 < get_or result k 0 }
+{
+    let mut inputs = [0; MOST_COMPONENTS];
+    for k in 0..netlist.size.components {
+        inputs[k] = inputs_of(netlist.table.kind(k));
+    }
+    inputs
+}
+
+/// The sets of all channels, a mask byte each. From the sources on, each component passes on what has come in once all its inputs have; then each that is left in a circle; and
+/// each passes on again what comes in later, until nothing is new.
 pub fn work_out(netlist: &Netlist) -> [u8; SETS_SIZE]
     ensures { SetBytes (facts_of netlist.now) result }
 {
@@ -223,13 +270,16 @@ pub fn work_out(netlist: &Netlist) -> [u8; SETS_SIZE]
     };
     let mut spread = Spread {
         sets: [0; SETS_SIZE],
+        to_come: find_inputs(netlist),
         waiting: ArrayVec::new(),
     };
     for k in 0..netlist.size.components {
-        spread.pass_on(&takers, k, k + 1);
+        if let Kind::Source = netlist.table.kind(k) {
+            spread.start(&takers, k);
+        }
     }
-    while let Some(k) = spread.waiting.pop() {
-        spread.pass_on(&takers, k as usize, netlist.size.components);
+    for k in 0..netlist.size.components {
+        spread.start(&takers, k);
     }
     spread.sets
 }

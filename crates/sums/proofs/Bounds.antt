@@ -42,7 +42,7 @@ less-near : (a b : ℤ) (m n : ℕ) → nat_abs a ≤ m → nat_abs b ≤ n → 
 less-near a b m n h k = omega (arith, nat_abs-add a (neg_ℤ b), nat_abs-neg b)
 
 -- a factor
-factor-near : (t : List ℕ) (c : ℕ) → c ≤ most_colours → (e : Equation) (v : ℕ) → nat_abs (factor_of t c e v) ≤ 16
+pub factor-near : (t : List ℕ) (c : ℕ) → c ≤ most_colours → (e : Equation) (v : ℕ) → nat_abs (factor_of t c e v) ≤ 16
 unfolding factor_of
 factor-near t c h (One p) v = omega (arith, same-near p v)
 factor-near t c h (Two p q) v = omega (arith, less-near (same p v) (same q v) 1 1 (same-near p v) (same-near q v))

@@ -28,7 +28,7 @@ use Rattle.verdicts.specs.Stages.{ready_tests, Testable}
 pub start-space : (space need : ℕ) → first_refusal (test StateShort (ltb space need) ∷ []) ≡ (Ok tt) → need ≤ space
 start-space space need e = ltb-false space need (cond-accepted StateShort (ltb space need) (Ok tt) e).0
 
--- the same of every table, so start_verdict's promise over an empty one is said of each
+-- the same of every table, so what start_verdict promises of an empty one it promises of each
 pub start_any_table : (size : Size) (t : List ℕ) (space : ℕ) → first_refusal (start_tests (netlist_of size t) space) ≡ first_refusal (start_tests (netlist_of size []) space)
 start_any_table size t space = refl
 

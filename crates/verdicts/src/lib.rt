@@ -1,7 +1,7 @@
 // The verdicts of start, step and run on an accepted fabric.
 #![tactic(auto)]
 
-ghost use Rattle.std.specs.Prelude.{◌≡◌, [], ◌≤◌, length};
+ghost use Rattle.std.specs.Prelude.{◌≡◌, List, [], ℕ, ◌≤◌, length};
 ghost use Rattle.refusals.specs.Refusals.{first_refusal};
 ghost use Rattle.component.specs.Limits.{most_components};
 ghost use Rattle.netlist.specs.Netlist.{netlist_of};
@@ -13,10 +13,11 @@ use cells::CELL_SIZE;
 use netlist::{Draft, Size};
 use refusals::Refusal;
 
-/// The refusal 21, with so many bytes of state memory. It is the same for every table, so the promise speaks of an empty one.
+/// The refusal 21, with so many bytes of state memory. It is the same for every table, and so for an empty one.
 pub fn start_verdict(size: Size, space: usize) -> Result<(), Refusal>
     requires { size.components ≤ most_components }
-    ensures { result ≡ first_refusal (start_tests (netlist_of size []) space) }
+    ensures answer { result ≡ first_refusal (start_tests (netlist_of size []) space) }
+    ensures any_table { (table : List ℕ) → result ≡ first_refusal (start_tests (netlist_of size table) space) }
 {
     if space < CELL_SIZE * size.components {
         return Err(Refusal::StateShort);

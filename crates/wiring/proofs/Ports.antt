@@ -3,9 +3,11 @@ use mathlib.Core.Path.{◌≡◌, refl, sym, subst}
 use Prim.Native.Nat.{ℕ, zero, suc, ◌+◌, ◌*◌, ◌/◌, ◌%◌, ◌<◌}
 use native.Mathlib.Omega.{arith}
 use mathlib.Core.Bool.{Bool, true, false, not}
-use mathlib.Core.List.{List}
+use mathlib.Core.List.{List, [], ◌∷◌}
+use lib.ListN.{get_or}
 use denote.Enum.Declared.{tag_of}
-use Rattle.component.specs.contracts.kinds.Port as ports
+use Rattle.component.specs.contracts.kinds.Kind as of_kind
+use Rattle.component.specs.contracts.kinds.Port as of_port
 use borrow.Author.Tests.{not-false}
 use Rattle.digits.specs.Least.{least}
 use Rattle.digits.proofs.Least.{least-before}
@@ -44,7 +46,7 @@ by_port P h A = h 0 (omega arith)
 by_port P h B = h 1 (omega arith)
 by_port P h C = h 2 (omega arith)
 
-pub port-tag : (port : Port) → tag_of ports.the_type port ≡ port_number port
+pub port-tag : (port : Port) → tag_of of_port.the_type port ≡ port_number port
 port-tag A = refl
 port-tag B = refl
 port-tag C = refl
@@ -59,6 +61,38 @@ at-port f e = λ kind port. by_kind (λ kind. f kind port ≡ true) (λ k hk. by
         let b : (3 * k + p) % 3 ≡ p = omega arith in
         subst (λ (j : ℕ). f (kind_of k) (port_of j) ≡ true) b
         (subst (λ (i : ℕ). f (kind_of i) (port_of ((3 * k + p) % 3)) ≡ true) a (each (λ i. f (kind_of (i / 3)) (port_of (i % 3))) 24 e (3 * k + p) (omega arith)))
+
+-- the code's table: a row a kind, a number a port
+unfoldable pub ports : List (List ℕ)
+ports = (16 ∷ 0 ∷ 0 ∷ []) ∷ (32 ∷ 0 ∷ 0 ∷ []) ∷ (32 ∷ 16 ∷ 0 ∷ []) ∷ (34 ∷ 24 ∷ 0 ∷ []) ∷ (35 ∷ 25 ∷ 26 ∷ []) ∷ (37 ∷ 41 ∷ 28 ∷ []) ∷ (43 ∷ 24 ∷ 24 ∷ []) ∷ (45 ∷ 45 ∷ 28 ∷ []) ∷ []
+
+-- the table has each kind's and port's code: each line computed
+pub port-code : (kind : Kind) (port : Port) → get_or {A = ℕ} (get_or {A = List ℕ} ports (tag_of of_kind.the_type kind) []) (tag_of of_port.the_type port) 0 ≡ port_code kind port
+unfolding ports port_use depends_on
+port-code Source A = refl
+port-code Source B = refl
+port-code Source C = refl
+port-code Sink A = refl
+port-code Sink B = refl
+port-code Sink C = refl
+port-code Queue A = refl
+port-code Queue B = refl
+port-code Queue C = refl
+port-code Function A = refl
+port-code Function B = refl
+port-code Function C = refl
+port-code Fork A = refl
+port-code Fork B = refl
+port-code Fork C = refl
+port-code Join A = refl
+port-code Join B = refl
+port-code Join C = refl
+port-code Switch A = refl
+port-code Switch B = refl
+port-code Switch C = refl
+port-code Merge A = refl
+port-code Merge B = refl
+port-code Merge C = refl
 
 -- what a code tells
 same : Bool → Bool → Bool

@@ -94,7 +94,7 @@ pub returns-then-weighing-eq0 : goal.returns-then-weighing-eq0
 returns-then-weighing-eq0 c =
     let start = (goal.at.returns-then-weighing-eq0 c).Start in
     let later = (goal.at.returns-then-weighing-eq0 c).In_ok-weighing in
-    giving-refused _ (place-tests (f start) (p start) (q start) (d start) (ok later) (entry-is later).0 (above-none (f start) (p start) (q start) (d start) (weight_is later) c.if-weighing-eq0.true))
+    giving-refused _ (place-tests (f start) (p start) (q start) (d start) (ok later) (entry-is later).0 (above-none (f start) (p start) (q start) (d start) (weight_is later) (omega arith)))
 
 pub raise-left-requires : goal.raise-left-requires
 raise-left-requires c =
@@ -102,7 +102,7 @@ raise-left-requires c =
     let later = (goal.at.raise-left-requires c).In_ok-weighing in
     let fits : FitsSigned w64 c.in_ok-weighing.weighing.constant = search rules in
     let e = to_z-of_z w64 c.in_ok-weighing.weighing.constant fits ∙ constant-is later in
-    (omega (arith, headroom-natural (f start) (p start) (accepted start), ap below_zero e, ap above_zero e, owed-is later c.if-weighing-eq0.false), c.in_ok-weighing.ensures.near)
+    (omega (arith, headroom-natural (f start) (p start) (accepted start), ap below_zero e, ap above_zero e, owed-is later (λ z. omega arith)), c.in_ok-weighing.ensures.near)
 
 pub capacity-most-requires : goal.capacity-most-requires
 capacity-most-requires c =
@@ -115,5 +115,5 @@ returns c =
     let later = (goal.at.returns c).In_ok-weighing in
     let fits : FitsSigned w64 c.in_ok-weighing.weighing.constant = search rules in
     let e = to_z-of_z w64 c.in_ok-weighing.weighing.constant fits ∙ constant-is later in
-    ap Ok (c.bounded.ensures ∙ value-is (f start) (p start) (q start) (d start) e (owed-is later c.if-weighing-eq0.false) c.raise-left.ensures (weight_is later) c.capacity-most.ensures)
-    ∙ giving-given (place-tests (f start) (p start) (q start) (d start) (ok later) (entry-is later).0 (above-some (f start) (p start) (q start) (d start) (weight_is later) c.if-weighing-eq0.false))
+    ap Ok (c.bounded.ensures ∙ value-is (f start) (p start) (q start) (d start) e (owed-is later (λ z. omega arith)) c.raise-left.ensures (weight_is later) c.capacity-most.ensures)
+    ∙ giving-given (place-tests (f start) (p start) (q start) (d start) (ok later) (entry-is later).0 (above-some (f start) (p start) (q start) (d start) (weight_is later) (λ z. omega arith)))

@@ -12,8 +12,8 @@ use Rattle.ceiling.proofs.entry_of.Goals.{then-size-queue-via-then-size-queue, t
 
 pub returns-then-size-queue : goal.returns-then-size-queue
 returns-then-size-queue c = none-entry (facts_of c.args.netlist.now) c.args.queue c.args.colour _ (elim c.then-size-queue.branch [
-  | then-size-queue-via-then-size-queue w ↦ out-queue (facts_of c.args.netlist.now) c.args.queue c.args.colour w.if-size-queue.true
-  | then-size-queue-via-else-size-queue+then-size-colour w ↦ out-colour (facts_of c.args.netlist.now) c.args.queue c.args.colour w.if-size-colour.true
+  | then-size-queue-via-then-size-queue w ↦ out-queue (facts_of c.args.netlist.now) c.args.queue c.args.colour (omega arith)
+  | then-size-queue-via-else-size-queue+then-size-colour w ↦ out-colour (facts_of c.args.netlist.now) c.args.queue c.args.colour (omega (arith, (accepted_netlist c.args.netlist.now.accepted).facts.few_colours))
 ])
 
 pub overflow_mul-result : goal.overflow_mul-result

@@ -1,4 +1,4 @@
-use Rattle.std.proofs.Common.{Ok}
+use Rattle.std.proofs.Common.{Ok, rules}
 use mathlib.Core.Path.{ap, ◌∙◌}
 use mir.Syntax.{w64}
 use mir.ValLaws.{to_z-of_z}
@@ -9,7 +9,7 @@ use Rattle.judgement.proofs.Judged.{giving-refused, giving-given, sums-flow, sum
 use Rattle.judgement.proofs.judge_sums.Goals as goal
 
 pub returns-in-Some : goal.returns-in-Some
-returns-in-Some c = giving-refused _ (sums-flow (facts_of c.args.coloured.now.netlist) c.args.sums.now c.args.weights.now.entries.now c.in-Some.ensures)
+returns-in-Some c = giving-refused _ (sums-flow (facts_of c.args.coloured.now.netlist) c.args.sums.now c.args.weights.now.entries.now (search rules))
 
 pub overflow_mul-coloured : goal.overflow_mul-coloured
 overflow_mul-coloured c = record { fits = omega (arith, (accepted_netlist c.args.coloured.now.netlist.accepted).facts.few_rows) }
@@ -18,9 +18,9 @@ pub lowest-requires : goal.lowest-requires
 lowest-requires c = omega (arith, c.args.weights.now.near.long, (accepted_netlist c.args.coloured.now.netlist.accepted).facts.few_rows)
 
 pub returns-then-is_none : goal.returns-then-is_none
-returns-then-is_none c = giving-refused _ (sums-weightless (facts_of c.args.coloured.now.netlist) c.args.sums.now c.args.weights.now.entries.now c.in_default.ensures c.lowest.ensures c.if-is_none.ensures)
+returns-then-is_none c = giving-refused _ (sums-weightless (facts_of c.args.coloured.now.netlist) c.args.sums.now c.args.weights.now.entries.now (search rules) c.lowest.ensures c.if-is_none.ensures)
 
 pub returns : goal.returns
 returns c =
     ap Ok (to_z-of_z w64 c.constant_of.result (record { sfits = c.constant_of.type_inv }) ∙ c.constant_of.ensures)
-    ∙ giving-given (sums-accepted (facts_of c.args.coloured.now.netlist) c.args.sums.now c.args.weights.now.entries.now c.in_default.ensures c.lowest.ensures c.if-is_none.ensures)
+    ∙ giving-given (sums-accepted (facts_of c.args.coloured.now.netlist) c.args.sums.now c.args.weights.now.entries.now (search rules) c.lowest.ensures c.if-is_none.ensures)

@@ -16,10 +16,10 @@ pub pass_out-requires : goal.pass_out-requires
 pass_out-requires c = record { before = c.requires.before; turn = c.requires.turn; output = out_first c.kind-kind.ensures c.first_output.ensures c.in_default.not-Sink }
 
 pub pass_out-requires-in-Fork : goal.pass_out-requires-in-Fork
-pass_out-requires-in-Fork c = record { before = c.pass_out.ensures.spreading; turn = c.requires.turn; output = out_c c.kind-kind.ensures c.in-Fork.is }
+pass_out-requires-in-Fork c = record { before = c.pass_out.ensures.spreading; turn = (c.requires.turn.0, c.pass_out.ensures.onward.stays _ c.requires.turn.1); output = out_c c.kind-kind.ensures c.in-Fork.is }
 
 pub returns-in-Fork : goal.returns-in-Fork
-returns-in-Fork c = pass-two (Output (goal.at.returns-in-Fork c).After-kind-kind) c.requires.turn.0 c.pass_out.ensures c.pass_out-in-Fork.ensures (out_both c.kind-kind.ensures c.first_output.ensures)
+returns-in-Fork c = pass-two (Output (goal.at.returns-in-Fork c).After-kind-kind) c.requires.turn.0 c.requires.turn.1 c.pass_out.ensures c.pass_out-in-Fork.ensures (out_both c.kind-kind.ensures c.first_output.ensures)
 
 pub returns-in_default-kind : goal.returns-in_default-kind
 returns-in_default-kind c = pass-one (Output (goal.at.returns-in_default-kind c).After-kind-kind) c.pass_out.ensures (out_one c.kind-kind.ensures c.first_output.ensures c.in_default-kind.not-Fork c.in_default-kind.not-Switch)

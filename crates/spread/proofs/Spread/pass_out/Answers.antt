@@ -13,7 +13,7 @@ use Rattle.netlist.specs.Netlist.{Netlist}
 use Rattle.netlist.specs.View.{facts_of}
 use Rattle.netlist.proofs.Whole.{accepted_netlist}
 use Rattle.spread.specs.Spread.{Below}
-use Rattle.spread.proofs.PassOut.{Passing, room_at, passed-at, below-sets}
+use Rattle.spread.proofs.PassOut.{Passing, taker-at, room_at, passed-at, below-sets}
 use Rattle.spread.proofs.Spread.pass_out.Goals as goal
 use Rattle.spread.proofs.Spread.pass_out.Goals.{After-let_out-more, Start}
 
@@ -27,17 +27,14 @@ module _ (b : Start) where
   abbrev r : List ℕ
   r = row b.args.takers.now.netlist.table.bytes.now b.args.k
 
-  low : b.args.k < f.components
-  low = omega (arith, b.requires.turn.0, b.requires.turn.1)
-
   -- a port that was read is a channel
   channel : {y : ℕ} (p : Port) → y ≡ port r p → y < f.channels
-  channel p e = omega (arith, (accepted.facts.rows b.args.k low).ports p)
+  channel p e = omega (arith, (accepted.facts.rows b.args.k b.requires.turn.0).ports p)
 
   few : {y : ℕ} (p : Port) → y ≡ port r p → Below f.colours (get_or b.args.self.now.sets y 0)
   few {y} p e = below-sets accepted.facts b.requires.before y (channel p e)
 
-passing : (c : After-let_out-more) → Passing (facts_of c.args.takers.now.netlist) c.args.takers.now.by_channel c.args.next c.args.self.now.sets c.args.self.now.waiting.items c.args.k c.args.port c.let_out-more.result
+passing : (c : After-let_out-more) → Passing (facts_of c.args.takers.now.netlist) c.args.takers.now.by_channel c.args.self.now.sets c.args.self.now.to_come c.args.self.now.waiting.items c.args.k c.args.port c.let_out-more.result
 passing c =
     let a = accepted_netlist c.args.takers.now.netlist.accepted in
     record {
@@ -46,8 +43,8 @@ passing c =
       accepted = a.facts;
       targeted = c.args.takers.now.noted;
       spreading = c.requires.before;
-      turn = c.requires.turn.0;
-      within = c.requires.turn.1;
+      low = c.requires.turn.0;
+      turn = c.requires.turn.1;
       output = c.requires.output;
       fits = search rules;
       lets = rw (c.port.ensures, c.port-2.ensures) at c.let_out-more.ensures;
@@ -59,7 +56,9 @@ let_out-more-requires-clause-sets c =
     (few b A c.port.ensures, few b B c.port-2.ensures)
 
 pub add-requires : goal.add-requires
-add-requires c = (c.port-3.type_inv, room_at (passing (goal.at.add-requires c).After-let_out-more) c.port-3.ensures)
+add-requires c =
+    let h = passing (goal.at.add-requires c).After-let_out-more in
+    record { taker = (c.port-3.type_inv, taker-at h c.port-3.ensures); room = room_at h c.port-3.ensures }
 
 pub returns : goal.returns
-returns c = passed-at (passing (goal.at.returns c).After-let_out-more) c.port-3.ensures c.add.ensures.sets c.add.ensures.waiting
+returns c = passed-at (passing (goal.at.returns c).After-let_out-more) c.port-3.ensures c.add.ensures.sets c.add.ensures.to_come c.add.ensures.waiting
