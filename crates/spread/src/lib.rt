@@ -235,7 +235,7 @@ impl Spread {
     }
 }
 
-// How many inputs a kind has; for a source 1, which never comes.
+// How many inputs a kind has; for a source 1, which never comes. It decides only in which order turns are given, so that the sets come out right asks no more than that it is not 0.
 fn inputs_of(kind: Kind) -> u8
     ensures { 0 < result }
 {
@@ -258,8 +258,8 @@ fn find_inputs(netlist: &Netlist) -> [u8; MOST_COMPONENTS]
     inputs
 }
 
-/// The sets of all channels, a mask byte each. From the sources on, each component passes on what has come in once all its inputs have; then each that is left in a circle; and
-/// each passes on again what comes in later, until nothing is new.
+/// The sets of all channels, a mask byte each. From the sources on, each component passes on what has come in once all its inputs have; then each that is left, in a circle of the
+/// drawing or behind one; and each passes on again what comes in later, until nothing is new.
 pub fn work_out(netlist: &Netlist) -> [u8; SETS_SIZE]
     ensures { SetBytes (facts_of netlist.now) result }
 {
