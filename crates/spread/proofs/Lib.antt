@@ -4,3 +4,6 @@ pub mod PassOut
 pub mod Targets
 pub mod PassOn
 pub mod WorkOut
+pub mod OutInTurn
+pub mod OnInTurn
+pub mod WorkInTurn

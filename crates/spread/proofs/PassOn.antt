@@ -11,46 +11,35 @@ use Rattle.component.specs.declared.kinds.Port.{Port}
 use Rattle.component.specs.declared.kinds.Port.TheVariants.{A, B, C}
 use Rattle.component.specs.Kind.{port_use, is_output}
 use Rattle.netlist.specs.Netlist.{Netlist}
-use Rattle.spread.specs.Spread.{first_output, Spreading, Due, Waits, Covered, PassedOn}
+use Rattle.spread.specs.Spread.{first_output, Spreading, Covered, PassedOn}
 
-module _ {f : Netlist} {sets to_come list : List ℕ} {k : ℕ} where
+module _ {f : Netlist} {next : ℕ} {sets list : List ℕ} {k : ℕ} where
   -- at none
-  pub pass-none : (done : Port → Type 0) → Spreading f sets to_come list → ((p : Port) → done p → ⊥) → PassedOn f sets to_come list sets to_come list done k
+  pub pass-none : (done : Port → Type 0) → Spreading f sets list → ((p : Port) → done p → ⊥) → PassedOn f next sets list sets list done k
   pass-none done s never = record {
     spreading = s;
-    onward = record { paid = omega arith; still = λ j w. w; stays = λ j e. e; keeps = λ j m e p c. c; fresh = λ j e. inl e };
+    onward = record { paid = omega arith; keeps = λ j m p c. c };
     covers = λ p d. absurd (never p d);
   }
 
   -- at one
-  pub pass-one : {sets' to_come' list' : List ℕ} (done : Port → Type 0) {p : Port} → PassedOn f sets to_come list sets' to_come' list' (λ q. q ≡ p) k → ((q : Port) → done q → q ≡ p) → PassedOn f sets to_come list sets' to_come' list' done k
+  pub pass-one : {sets' list' : List ℕ} (done : Port → Type 0) {p : Port} → PassedOn f next sets list sets' list' (λ q. q ≡ p) k → ((q : Port) → done q → q ≡ p) → PassedOn f next sets list sets' list' done k
   pass-one done h only = record { spreading = h.spreading; onward = h.onward; covers = λ q d. h.covers q (only q d) }
 
   -- at one, then at another
-  pub pass-two : {sets' to_come' list' sets'' to_come'' list'' : List ℕ} (done : Port → Type 0) {p r : Port} → k < f.components → Due to_come k → PassedOn f sets to_come list sets' to_come' list' (λ q. q ≡ p) k
-      → PassedOn f sets' to_come' list' sets'' to_come'' list'' (λ q. q ≡ r) k → ((q : Port) → done q → (q ≡ p) ⊎ (q ≡ r)) → PassedOn f sets to_come list sets'' to_come'' list'' done k
-  pass-two {sets'} {to_come'} {list'} {sets''} {to_come''} {list''} done {p} {r} low due h g either = record {
+  pub pass-two : {sets' list' sets'' list'' : List ℕ} (done : Port → Type 0) {p r : Port} → k < next → PassedOn f next sets list sets' list' (λ q. q ≡ p) k
+      → PassedOn f next sets' list' sets'' list'' (λ q. q ≡ r) k → ((q : Port) → done q → (q ≡ p) ⊎ (q ≡ r)) → PassedOn f next sets list sets'' list'' done k
+  pass-two {sets'} {list'} {sets''} {list''} done {p} {r} low h g either = record {
     spreading = g.spreading;
     onward = record {
       paid = omega (arith, h.onward.paid, g.onward.paid);
-      still = λ j w. g.onward.still j (h.onward.still j w);
-      stays = λ j e. g.onward.stays j (h.onward.stays j e);
-      keeps = λ j m e q c. g.onward.keeps j m (h.onward.stays j e) q (h.onward.keeps j m e q c);
-      fresh = λ j e. by-second j (g.onward.fresh j e);
+      keeps = λ j m q c. g.onward.keeps j m q (h.onward.keeps j m q c);
     };
     covers = λ q d. by-port q (either q d);
   }
     where
-      by-first : (j : ℕ) → Due to_come j ⊎ Waits list' j → Due to_come j ⊎ Waits list'' j
-      by-first j (inl e) = inl e
-      by-first j (inr w) = inr (g.onward.still j w)
-
-      by-second : (j : ℕ) → Due to_come' j ⊎ Waits list'' j → Due to_come j ⊎ Waits list'' j
-      by-second j (inl e) = by-first j (h.onward.fresh j e)
-      by-second j (inr w) = inr w
-
       by-port : (q : Port) → (q ≡ p) ⊎ (q ≡ r) → Covered f sets'' list'' k q
-      by-port q (inl e) = g.onward.keeps k low (h.onward.stays k due) q (h.covers q e)
+      by-port q (inl e) = g.onward.keeps k low q (h.covers q e)
       by-port q (inr e) = g.covers q e
 
 -- ---- the output ports by the kind that was read

@@ -1,21 +1,20 @@
--- Each component in turn once its inputs have come, and those on the list, until nobody is left. Assumes nothing.
+-- All components in turn, then those on the list, until it is at its end. Assumes nothing.
 use mathlib.Core.Path.{◌≡◌, sym, ap, subst, ◌∙◌}
-use mathlib.Core.Logic.{◌⊎◌, inl, inr}
+use mathlib.Core.Logic.{inl, inr}
 use mathlib.Core.Bool.{Bool, ◌&&◌, true≢false}
 use mathlib.Core.List.{List, [], ◌∷◌, ◌++◌}
-use Prim.Native.Nat.{ℕ, ◌+◌, ◌*◌, ◌-◌, ◌/◌, ◌%◌, ◌≤◌, ◌<◌}
+use Prim.Native.Nat.{ℕ, ◌+◌, ◌*◌, ◌-◌, ◌/◌, ◌%◌, ◌<◌}
 use native.Mathlib.Decide.{ℕ_discrete}
 use native.Mathlib.Omega.{arith}
-use lib.Dec.{ltb, eqb}
-use lib.ListN.{length, get_or, set, replicate, length-replicate, length-set, get_or-append}
-use lib.Seq.{get_or-set_same, get_or-set_other, get_or-append_seam}
+use lib.Dec.{ltb}
+use lib.ListN.{length, get_or, replicate, length-replicate, get_or-append}
+use lib.Seq.{get_or-append_seam}
 use Rattle.std.proofs.lemmas.List.{length-append}
-use Rattle.digits.proofs.Count.{count-le, count-more}
-use borrow.Author.Tests.{lt-ltb, eqb-true, eq-eqb}
+use Rattle.digits.proofs.Count.{count-le}
+use borrow.Author.Tests.{lt-ltb}
 use Rattle.digits.proofs.Bools.{and-false}
 use Rattle.order.proofs.Zeros.{get_or-zeros}
 use Rattle.component.specs.declared.kinds.Port.{Port}
-use Rattle.component.specs.Limits.{most_components}
 use Rattle.component.specs.Row.{kind, has_colour}
 use Rattle.component.proofs.Sets.{has-none, byte-is}
 use Rattle.netlist.specs.Netlist.{Netlist, row_of}
@@ -24,160 +23,97 @@ use Rattle.reach.specs.Rounds.{reachable, Closed, set_byte}
 use Rattle.reach.specs.Known.{SetBytes}
 use Rattle.reach.proofs.Rounds.{sets-are}
 use Rattle.spread.proofs.PassOn.{OutputOf}
-use Rattle.spread.specs.Spread.{in_bytes, members, dues, Due, Spreading, Waits, Out, Covered, AllCovered, Onward, PassedOn, Settled}
+use Rattle.spread.specs.Spread.{in_bytes, members, Spreading, Out, Covered, CoveredTo, Onward, PassedOn}
 
--- one component more whose inputs are counted
-pub inputs_more : (l : List ℕ) (k v : ℕ) → k < length l → 0 < v → ((j : ℕ) → j < k → 0 < get_or l j 0) → (j : ℕ) → j < k + 1 → 0 < get_or (set l k v) j 0
-inputs_more l k v m p h j b = go (ℕ_discrete j k)
-  where
-    go : Dec (j ≡ k) → 0 < get_or (set l k v) j 0
-    go (yes e) = subst (λ (n : ℕ). 0 < n) (sym (ap (λ (n : ℕ). get_or (set l k v) n 0) e ∙ get_or-set_same l k v 0 m)) p
-    go (no e) = subst (λ (n : ℕ). 0 < n) (sym (get_or-set_other l k j v 0 e)) (h j (omega arith))
-
--- no colours, nobody is due, and nobody on the list
-pub settled_none : (f : Netlist) {sets to_come list : List ℕ} → sets ≡ replicate 256 0 → list ≡ [] → length to_come ≡ most_components → ((k : ℕ) → k < f.components → 0 < get_or to_come k 0) → Settled f sets to_come list
-settled_none f {sets} {to_come} {list} e q long later = record {
-  spreading = record {
-    sets_long = ap length e ∙ length-replicate {A = ℕ} 256 0;
-    come_long = long;
-    small = λ x. subst (λ (n : ℕ). n < 256) (sym (zero-at x)) (omega arith);
-    inside = λ x d l t. absurd (true≢false (sym t ∙ ap (λ (b : Bool). ltb d 8 && b) (ap (λ (n : ℕ). has_colour n d) (zero-at x) ∙ has-none d) ∙ and-false (ltb d 8)));
-    few = omega (arith, ap length q);
-    named = λ i l. absurd (omega (arith, l, ap length q));
-  };
-  covered = record { covered = λ k l due p o. absurd (omega (arith, later k l, due)) };
-  nobody = ap length q;
+-- no colours, and nobody on the list
+pub spread_none : (f : Netlist) {sets list : List ℕ} → sets ≡ replicate 256 0 → list ≡ [] → Spreading f sets list
+spread_none f {sets} {list} e q = record {
+  sets_long = ap length e ∙ length-replicate {A = ℕ} 256 0;
+  small = λ x. subst (λ (n : ℕ). n < 256) (sym (zero-at x)) (omega arith);
+  inside = λ x d l t. absurd (true≢false (sym t ∙ ap (λ (b : Bool). ltb d 8 && b) (ap (λ (n : ℕ). has_colour n d) (zero-at x) ∙ has-none d) ∙ and-false (ltb d 8)));
+  few = let z : length list ≡ 0 = ap length q in omega arith;
+  named = λ i l. let z : length list ≡ 0 = ap length q in absurd (omega arith);
 }
   where
     zero-at : (x : ℕ) → get_or sets x 0 ≡ 0
     zero-at x = ap (λ (l : List ℕ). get_or l x 0) e ∙ get_or-zeros 256 x
 
--- ---- component k is due
-module _ {f : Netlist} {sets to_come list : List ℕ} {k : ℕ} (few_rows : f.components ≤ most_components) (low : k < f.components) where
-  module _ (h : Spreading f sets to_come list) where
-    abbrev begun : List ℕ
-    begun = set to_come k 0
+pub cover-none : {f : Netlist} {sets list : List ℕ} → CoveredTo f sets list 0
+cover-none = record { covered = λ k l p o. absurd (omega arith) }
 
-    pub due-now : Due begun k
-    due-now = get_or-set_same to_come k 0 0 (omega (arith, h.come_long, few_rows, low))
-
-    due-still : (j : ℕ) → Due to_come j → Due begun j
-    due-still j e = go (ℕ_discrete j k)
-      where
-        go : Dec (j ≡ k) → Due begun j
-        go (yes q) = ap (λ (n : ℕ). get_or begun n 0) q ∙ due-now
-        go (no q) = get_or-set_other to_come k j 0 0 q ∙ e
-
-    dues-grow : dues to_come ≤ dues begun
-    unfolding dues
-    dues-grow = count-more (λ j. eqb (get_or to_come j 0) 0) (λ j. eqb (get_or begun j 0) 0) most_components (λ j l e. eq-eqb _ _ (due-still j (eqb-true _ _ e)))
-
-    pub spread-begun : Spreading f sets begun list
-    spread-begun = record {
-      sets_long = h.sets_long;
-      come_long = length-set to_come k 0 ∙ h.come_long;
-      small = h.small;
-      inside = h.inside;
-      few = omega (arith, h.few, dues-grow);
-      named = λ i l. ((h.named i l).0, due-still (get_or list i 0) (h.named i l).1);
-    }
-
-    -- after its first turn, and who was due stays so
-    module _ {sets' to_come' list' : List ℕ} (g : PassedOn f sets begun list sets' to_come' list' ((λ q. OutputOf (kind (row_of f k)) q)) k) where
-      pub cover-next : AllCovered f sets to_come list → AllCovered f sets' to_come' list'
-      cover-next c = record { covered = λ j l due p o. by-fresh j l p o (g.onward.fresh j due) }
-        where
-          by_place : (j : ℕ) → j < f.components → (p : Port) → OutputOf (kind (row_of f j)) p → Due begun j → Dec (j ≡ k) → Covered f sets' list' j p
-          by_place j l p o due (yes q) = subst (λ (m : ℕ). Covered f sets' list' m p) (sym q) (g.covers p (subst (λ (m : ℕ). OutputOf (kind (row_of f m)) p) q o))
-          by_place j l p o due (no q) = g.onward.keeps j l due p (c.covered j l (sym (get_or-set_other to_come k j 0 0 q) ∙ due) p o)
-
-          by-fresh : (j : ℕ) → j < f.components → (p : Port) → OutputOf (kind (row_of f j)) p → Due begun j ⊎ Waits list' j → Covered f sets' list' j p
-          by-fresh j l p o (inl due) = by_place j l p o due (ℕ_discrete j k)
-          by-fresh j l p o (inr w) = inr w
-
-      pub due-first : (j : ℕ) → (j ≡ k) ⊎ Due to_come j → Due to_come' j
-      due-first j (inl q) = ap (λ (n : ℕ). get_or to_come' n 0) q ∙ g.onward.stays k due-now
-      due-first j (inr e) = g.onward.stays j (due-still j e)
+-- one component more in the first round
+pub cover-next : {f : Netlist} {sets list sets' list' : List ℕ} {k : ℕ} → CoveredTo f sets list k → PassedOn f (k + 1) sets list sets' list' ((λ q. OutputOf (kind (row_of f k)) q)) k → CoveredTo f sets' list' (k + 1)
+cover-next {f} {sets} {list} {sets'} {list'} {k} c h = record { covered = λ j l p o. by_place j l p o (ℕ_discrete j k) }
+  where
+    by_place : (j : ℕ) → j < k + 1 → (p : Port) → OutputOf (kind (row_of f j)) p → Dec (j ≡ k) → Covered f sets' list' j p
+    by_place j l p o (yes e) = subst (λ (m : ℕ). Covered f sets' list' m p) (sym e) (h.covers p (subst (λ (m : ℕ). OutputOf (kind (row_of f m)) p) e o))
+    by_place j l p o (no e) = h.onward.keeps j l p (c.covered j (omega arith) p o)
 
 -- ---- the last entry is taken off the list
 pub record Popped (all list : List ℕ) (k : ℕ) : Type 0 where
   pub items : all ≡ list ++ k ∷ []
 
 module _ {all list : List ℕ} {k : ℕ} (e : Popped all list k) where
-  longer : length all ≡ length list + 1
+  pub longer : length all ≡ length list + 1
   longer = ap length e.items ∙ length-append list (k ∷ [])
 
   -- the others stand where they stood
-  kept : (i : ℕ) → i < length list → get_or all i 0 ≡ get_or list i 0
+  pub kept : (i : ℕ) → i < length list → get_or all i 0 ≡ get_or list i 0
   kept i l = ap (λ (w : List ℕ). get_or w i 0) e.items ∙ get_or-append list (k ∷ []) 0 i l
 
-  last : get_or all (length list) 0 ≡ k
+  pub last : get_or all (length list) 0 ≡ k
   last = ap (λ (w : List ℕ). get_or w (length list) 0) e.items ∙ get_or-append_seam list k [] 0
 
-  pub shorter : {f : Netlist} {sets to_come : List ℕ} → Spreading f sets to_come all → ((k < f.components) × Due to_come k) × Spreading f sets to_come list
-  shorter {f} {sets} {to_come} s = (
-    subst (λ (j : ℕ). (j < f.components) × Due to_come j) last (s.named (length list) (omega (arith, longer))),
+  -- who waits still waits, but for it
+  pub later : (f : Netlist) (sets : List ℕ) (j : ℕ) → (j ≡ k → ⊥) → (p : Port) → Covered f sets all j p → Covered f sets list j p
+  later f sets j ne p (inl o) = inl o
+  later f sets j ne p (inr (i, hi, at)) = go (ℕ_discrete i (length list))
+    where
+      go : Dec (i ≡ length list) → Covered f sets list j p
+      go (yes q) = absurd (ne (sym at ∙ ap (λ (m : ℕ). get_or all m 0) q ∙ last))
+      go (no q) =
+          let l : i < length list = omega (arith, longer) in
+          inr (i, l, sym (kept i l) ∙ at)
+
+  pub shorter : {f : Netlist} {sets : List ℕ} → Spreading f sets all → (k < f.components) × Spreading f sets list
+  shorter {f} {sets} s = (
+    subst (λ (j : ℕ). j < f.components) last (s.named (length list) (omega (arith, longer))),
     record {
       sets_long = s.sets_long;
-      come_long = s.come_long;
       small = s.small;
       inside = s.inside;
       few = omega (arith, s.few, longer);
-      named = λ i l. subst (λ (j : ℕ). (j < f.components) × Due to_come j) (kept i l) (s.named i (omega (arith, longer)));
+      named = λ i l. subst (λ (j : ℕ). j < f.components) (kept i l) (s.named i (omega (arith, longer)));
     },
   )
 
-  module _ {f : Netlist} {sets to_come sets' to_come' list' : List ℕ} where
+  module _ {f : Netlist} {sets sets' list' : List ℕ} where
     -- it has its turn
-    pub cover-turn : AllCovered f sets to_come all → PassedOn f sets to_come list sets' to_come' list' ((λ q. OutputOf (kind (row_of f k)) q)) k → AllCovered f sets' to_come' list'
-    cover-turn c h = record { covered = λ j l due p o. by-fresh j l p o (h.onward.fresh j due) }
+    pub cover-turn : CoveredTo f sets all f.components → PassedOn f f.components sets list sets' list' ((λ q. OutputOf (kind (row_of f k)) q)) k → CoveredTo f sets' list' f.components
+    cover-turn c h = record { covered = λ j l p o. by_place j l p o (ℕ_discrete j k) }
       where
-        later : (j : ℕ) → (j ≡ k → ⊥) → (p : Port) → Covered f sets all j p → Covered f sets list j p
-        later j ne p (inl o) = inl o
-        later j ne p (inr (i, hi, at)) = go (ℕ_discrete i (length list))
-          where
-            go : Dec (i ≡ length list) → Covered f sets list j p
-            go (yes q) = absurd (ne (sym at ∙ ap (λ (m : ℕ). get_or all m 0) q ∙ last))
-            go (no q) =
-                let l : i < length list = omega (arith, longer) in
-                inr (i, l, sym (kept i l) ∙ at)
-
-        by_place : (j : ℕ) → j < f.components → (p : Port) → OutputOf (kind (row_of f j)) p → Due to_come j → Dec (j ≡ k) → Covered f sets' list' j p
-        by_place j l p o due (yes q) = subst (λ (m : ℕ). Covered f sets' list' m p) (sym q) (h.covers p (subst (λ (m : ℕ). OutputOf (kind (row_of f m)) p) q o))
-        by_place j l p o due (no q) = h.onward.keeps j l due p (later j q p (c.covered j l due p o))
-
-        by-fresh : (j : ℕ) → j < f.components → (p : Port) → OutputOf (kind (row_of f j)) p → Due to_come j ⊎ Waits list' j → Covered f sets' list' j p
-        by-fresh j l p o (inl due) = by_place j l p o due (ℕ_discrete j k)
-        by-fresh j l p o (inr w) = inr w
+        by_place : (j : ℕ) → j < f.components → (p : Port) → OutputOf (kind (row_of f j)) p → Dec (j ≡ k) → Covered f sets' list' j p
+        by_place j l p o (yes q) = subst (λ (m : ℕ). Covered f sets' list' m p) (sym q) (h.covers p (subst (λ (m : ℕ). OutputOf (kind (row_of f m)) p) q o))
+        by_place j l p o (no q) = h.onward.keeps j l p (later f sets j q p (c.covered j l p o))
 
     -- and there is less to do than before
-    pub less-left : Onward f sets to_come list sets' to_come' list'
-        → length list' + ((8 * f.channels - members f sets') + (most_components - dues to_come')) < length all + ((8 * f.channels - members f sets) + (most_components - dues to_come))
-    unfolding members dues
-    less-left o =
-        omega (
-          arith,
-          o.paid,
-          longer,
-          count-le (λ v. in_bytes sets' (v / 8) (v % 8)) (8 * f.channels),
-          count-le (λ j. eqb (get_or to_come' j 0) 0) most_components,
-          count-le (λ v. in_bytes sets (v / 8) (v % 8)) (8 * f.channels),
-          count-le (λ j. eqb (get_or to_come j 0) 0) most_components,
-        )
+    pub less-left : Onward f f.components sets list sets' list' → length list' + (8 * f.channels - members f sets') < length all + (8 * f.channels - members f sets)
+    unfolding members
+    less-left o = omega (arith, o.paid, longer, count-le (λ v. in_bytes sets' (v / 8) (v % 8)) (8 * f.channels))
 
--- where all are due and nobody waits the sets are closed, so they are the smallest
-module _ {f : Netlist} {ends order : List ℕ} (a : AcceptedFabric f ends order) {sets to_come list : List ℕ} (s : Settled f sets to_come list) (all : (k : ℕ) → k < f.components → Due to_come k) where
+-- at the end of the list the sets are closed, so they are the smallest
+module _ {f : Netlist} {ends order : List ℕ} (a : AcceptedFabric f ends order) {sets list : List ℕ} (s : Spreading f sets list) (c : CoveredTo f sets list f.components) (end : length list ≡ 0) where
   all-out : Closed f (in_bytes sets)
-  all-out = record { closed = λ k l p o. go k p (s.covered.covered k l (all k l) p o) }
+  all-out = record { closed = λ k l p o. go k p (c.covered k l p o) }
     where
       go : (k : ℕ) (p : Port) → Covered f sets list k p → Out f sets k p
       go k p (inl o) = o
-      go k p (inr (i, hi, e)) = absurd (omega (arith, hi, s.nobody))
+      go k p (inr (i, hi, e)) = absurd (omega arith)
 
   pub set-bytes : SetBytes f sets
   unfolding set_byte
   set-bytes = record {
-    long = omega (arith, s.spreading.sets_long, a.few_channels);
-    at = λ x l. byte-is (reachable f x) (get_or sets x 0) (s.spreading.small x)
-        (λ d m. ap (λ (b : Bool). b && has_colour (get_or sets x 0) d) (sym (lt-ltb d 8 m)) ∙ sets-are f ends order a (in_bytes sets) all-out s.spreading.inside x d l);
+    long = omega (arith, s.sets_long, a.few_channels);
+    at = λ x l. byte-is (reachable f x) (get_or sets x 0) (s.small x)
+        (λ d m. ap (λ (b : Bool). b && has_colour (get_or sets x 0) d) (sym (lt-ltb d 8 m)) ∙ sets-are f ends order a (in_bytes sets) all-out s.inside x d l);
   }

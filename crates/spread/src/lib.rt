@@ -11,7 +11,8 @@ ghost use Rattle.netlist.specs.Netlist.{netlist_of};
 ghost use Rattle.netlist.specs.View.{facts_of};
 ghost use Rattle.reach.specs.Rounds.{image, passed};
 ghost use Rattle.reach.specs.Known.{SetBytes};
-ghost use Rattle.spread.specs.Spread.{IsSet, Below, MapBelow, Targets, first_output, grown_set, one_less, most_turns, listed, Spreading, PassedOn, Settled};
+ghost use Rattle.spread.specs.Spread.{IsSet, Below, MapBelow, Targets, first_output, grown_set};
+ghost use Rattle.spread.specs.InTurn.{one_less, most_turns, listed_in_turn, SpreadingInTurn, PassedOnInTurn, Settled};
 
 use arrayvec::ArrayVec;
 use component::{Kind, MOST_COMPONENTS, MOST_FLOWS, Map, Port, Table};
@@ -171,10 +172,10 @@ impl Spread {
     // Adds colours to the set of channel x, whose giver has its turn. The component that takes from x waits for a turn once all its inputs have come; from then on, where some colours are new.
     fn add(&mut self, takers: &Takers, x: usize, more: u8)
         requires taker { (x < 256) × (get_or takers.now.by_channel x 0 < most_components) }
-        requires room { listed self.old.sets takers.now.by_channel self.old.to_come x more ≡ true → length self.old.waiting.items < most_turns }
+        requires room { listed_in_turn self.old.sets takers.now.by_channel self.old.to_come x more ≡ true → length self.old.waiting.items < most_turns }
         ensures sets { self.new.sets ≡ set self.old.sets x (grown_set self.old.sets x more) }
         ensures to_come { self.new.to_come ≡ one_less self.old.to_come (get_or takers.now.by_channel x 0) }
-        ensures waiting { self.new.waiting.items ≡ cond (listed self.old.sets takers.now.by_channel self.old.to_come x more) (self.old.waiting.items ++ get_or takers.now.by_channel x 0 ∷ []) self.old.waiting.items }
+        ensures waiting { self.new.waiting.items ≡ cond (listed_in_turn self.old.sets takers.now.by_channel self.old.to_come x more) (self.old.waiting.items ++ get_or takers.now.by_channel x 0 ∷ []) self.old.waiting.items }
     {
         let old = self.sets[x];
         let all = old | more;
@@ -189,10 +190,10 @@ impl Spread {
 
     // Adds what goes out at an output port of component k to the set there.
     fn pass_out(&mut self, takers: &Takers, k: usize, port: Port)
-        requires before { Spreading (facts_of takers.now.netlist) self.old.sets self.old.to_come self.old.waiting.items }
+        requires before { SpreadingInTurn (facts_of takers.now.netlist) self.old.sets self.old.to_come self.old.waiting.items }
         requires turn { (k < takers.now.netlist.size.components) × (get_or self.old.to_come k 0 ≡ 0) }
         requires output { is_output (port_use (kind (row takers.now.netlist.table.bytes.now k)) port) ≡ true }
-        ensures { PassedOn (facts_of takers.now.netlist) self.old.sets self.old.to_come self.old.waiting.items self.new.sets self.new.to_come self.new.waiting.items (λ q. q ≡ port) k }
+        ensures { PassedOnInTurn (facts_of takers.now.netlist) self.old.sets self.old.to_come self.old.waiting.items self.new.sets self.new.to_come self.new.waiting.items (λ q. q ≡ port) k }
     {
         let table = takers.netlist.table;
         let a = self.sets[table.port(k, Port::A) as usize];
@@ -203,9 +204,9 @@ impl Spread {
 
     // The same at each output port of component k.
     fn pass_on(&mut self, takers: &Takers, k: usize)
-        requires before { Spreading (facts_of takers.now.netlist) self.old.sets self.old.to_come self.old.waiting.items }
+        requires before { SpreadingInTurn (facts_of takers.now.netlist) self.old.sets self.old.to_come self.old.waiting.items }
         requires turn { (k < takers.now.netlist.size.components) × (get_or self.old.to_come k 0 ≡ 0) }
-        ensures { PassedOn (facts_of takers.now.netlist) self.old.sets self.old.to_come self.old.waiting.items self.new.sets self.new.to_come self.new.waiting.items (λ q. is_output (port_use (kind (row takers.now.netlist.table.bytes.now k)) q) ≡ true) k }
+        ensures { PassedOnInTurn (facts_of takers.now.netlist) self.old.sets self.old.to_come self.old.waiting.items self.new.sets self.new.to_come self.new.waiting.items (λ q. is_output (port_use (kind (row takers.now.netlist.table.bytes.now k)) q) ≡ true) k }
     {
         let kind = takers.netlist.table.kind(k);
         if let Kind::Sink = kind {
@@ -246,7 +247,7 @@ fn inputs_of(kind: Kind) -> u8
 }
 
 // The same of each component.
-#[tactic(auto, using(crate::proofs::WorkOut::inputs_more))]
+#[tactic(auto, using(crate::proofs::WorkInTurn::inputs_more))]
 fn find_inputs(netlist: &Netlist) -> [u8; MOST_COMPONENTS]
     ensures long { length result ≡ most_components }
     ensures some { (k : ℕ) → k < netlist.now.size.components → 0 < get_or result k 0 }

@@ -1,6 +1,6 @@
 use Prim.Native.Nat.{ℕ, ◌≤◌, ◌<◌}
 use Rattle.netlist.specs.View.{facts_of}
-use Rattle.spread.specs.Spread.{Due, Settled}
+use Rattle.spread.specs.InTurn.{Due, Settled}
 use Rattle.spread.proofs.work_out.Given as goal
 
 abbrev pub invariant-loop-k : goal.invariant-loop-k

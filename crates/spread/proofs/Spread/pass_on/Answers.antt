@@ -1,7 +1,8 @@
 use Rattle.component.specs.declared.kinds.Port.{Port}
 use Rattle.record.specs.Table.{row}
 use Rattle.component.specs.Row.{kind}
-use Rattle.spread.proofs.PassOn.{OutputOf, pass-none, pass-one, pass-two, out_none, out_c, out_first, out_both, out_one}
+use Rattle.spread.proofs.PassOn.{OutputOf, out_none, out_c, out_first, out_both, out_one}
+use Rattle.spread.proofs.OnInTurn.{pass-none-in-turn, pass-one-in-turn, pass-two-in-turn}
 use Rattle.spread.proofs.Spread.pass_on.Goals as goal
 use Rattle.spread.proofs.Spread.pass_on.Goals.{After-kind-kind}
 
@@ -10,7 +11,7 @@ abbrev Output : After-kind-kind → Port → Type 0
 Output b p = OutputOf (kind (row b.args.takers.now.netlist.table.bytes.now b.args.k)) p
 
 pub returns-in-Sink : goal.returns-in-Sink
-returns-in-Sink c = pass-none (Output (goal.at.returns-in-Sink c).After-kind-kind) c.requires.before (out_none c.kind-kind.ensures c.in-Sink.is)
+returns-in-Sink c = pass-none-in-turn (Output (goal.at.returns-in-Sink c).After-kind-kind) c.requires.before (out_none c.kind-kind.ensures c.in-Sink.is)
 
 pub pass_out-requires : goal.pass_out-requires
 pass_out-requires c = record { before = c.requires.before; turn = c.requires.turn; output = out_first c.kind-kind.ensures c.first_output.ensures c.in_default.not-Sink }
@@ -19,7 +20,7 @@ pub pass_out-requires-in-Fork : goal.pass_out-requires-in-Fork
 pass_out-requires-in-Fork c = record { before = c.pass_out.ensures.spreading; turn = (c.requires.turn.0, c.pass_out.ensures.onward.stays _ c.requires.turn.1); output = out_c c.kind-kind.ensures c.in-Fork.is }
 
 pub returns-in-Fork : goal.returns-in-Fork
-returns-in-Fork c = pass-two (Output (goal.at.returns-in-Fork c).After-kind-kind) c.requires.turn.0 c.requires.turn.1 c.pass_out.ensures c.pass_out-in-Fork.ensures (out_both c.kind-kind.ensures c.first_output.ensures)
+returns-in-Fork c = pass-two-in-turn (Output (goal.at.returns-in-Fork c).After-kind-kind) c.requires.turn.0 c.requires.turn.1 c.pass_out.ensures c.pass_out-in-Fork.ensures (out_both c.kind-kind.ensures c.first_output.ensures)
 
 pub returns-in_default-kind : goal.returns-in_default-kind
-returns-in_default-kind c = pass-one (Output (goal.at.returns-in_default-kind c).After-kind-kind) c.pass_out.ensures (out_one c.kind-kind.ensures c.first_output.ensures c.in_default-kind.not-Fork c.in_default-kind.not-Switch)
+returns-in_default-kind c = pass-one-in-turn (Output (goal.at.returns-in_default-kind c).After-kind-kind) c.pass_out.ensures (out_one c.kind-kind.ensures c.first_output.ensures c.in_default-kind.not-Fork c.in_default-kind.not-Switch)

@@ -13,7 +13,7 @@ use Rattle.netlist.specs.Netlist.{Netlist}
 use Rattle.netlist.specs.View.{facts_of}
 use Rattle.netlist.proofs.Whole.{accepted_netlist}
 use Rattle.spread.specs.Spread.{Below}
-use Rattle.spread.proofs.PassOut.{Passing, taker-at, room_at, passed-at, below-sets}
+use Rattle.spread.proofs.OutInTurn.{PassingInTurn, taker-at, room-in-turn, passed-in-turn, below-in-turn}
 use Rattle.spread.proofs.Spread.pass_out.Goals as goal
 use Rattle.spread.proofs.Spread.pass_out.Goals.{After-let_out-more, Start}
 
@@ -32,9 +32,9 @@ module _ (b : Start) where
   channel p e = omega (arith, (accepted.facts.rows b.args.k b.requires.turn.0).ports p)
 
   few : {y : ℕ} (p : Port) → y ≡ port r p → Below f.colours (get_or b.args.self.now.sets y 0)
-  few {y} p e = below-sets accepted.facts b.requires.before y (channel p e)
+  few {y} p e = below-in-turn accepted.facts b.requires.before y (channel p e)
 
-passing : (c : After-let_out-more) → Passing (facts_of c.args.takers.now.netlist) c.args.takers.now.by_channel c.args.self.now.sets c.args.self.now.to_come c.args.self.now.waiting.items c.args.k c.args.port c.let_out-more.result
+passing : (c : After-let_out-more) → PassingInTurn (facts_of c.args.takers.now.netlist) c.args.takers.now.by_channel c.args.self.now.sets c.args.self.now.to_come c.args.self.now.waiting.items c.args.k c.args.port c.let_out-more.result
 passing c =
     let a = accepted_netlist c.args.takers.now.netlist.accepted in
     record {
@@ -58,7 +58,7 @@ let_out-more-requires-clause-sets c =
 pub add-requires : goal.add-requires
 add-requires c =
     let h = passing (goal.at.add-requires c).After-let_out-more in
-    record { taker = (c.port-3.type_inv, taker-at h c.port-3.ensures); room = room_at h c.port-3.ensures }
+    record { taker = (c.port-3.type_inv, taker-at h c.port-3.ensures); room = room-in-turn h c.port-3.ensures }
 
 pub returns : goal.returns
-returns c = passed-at (passing (goal.at.returns c).After-let_out-more) c.port-3.ensures c.add.ensures.sets c.add.ensures.to_come c.add.ensures.waiting
+returns c = passed-in-turn (passing (goal.at.returns c).After-let_out-more) c.port-3.ensures c.add.ensures.sets c.add.ensures.to_come c.add.ensures.waiting
