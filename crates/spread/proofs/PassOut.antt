@@ -46,13 +46,13 @@ pub record LetsOut (f : Netlist) (targets sets list : List ℕ) (k : ℕ) (p : P
   pub lets : IsSet more (λ d. ltb d f.colours && passed (kind (row_of f k)) p f.colours (row_of f k) (has_colour (get_or sets (port (row_of f k) A) 0)) (has_colour (get_or sets (port (row_of f k) B) 0)) d)
 
 module _ {f : Netlist} {targets sets list : List ℕ} {k more : ℕ} {p : Port} (h : LetsOut f targets sets list k p more) where
-  abbrev x : ℕ
-  x = port (row_of f k) p
+  abbrev channel : ℕ
+  channel = port (row_of f k) p
 
-  pub below : x < f.channels
+  pub below : channel < f.channels
   below = (h.accepted.rows k h.low).ports p
 
-  pub there : x < length sets
+  pub there : channel < length sets
   there = omega (arith, below, h.accepted.few_channels, h.spreading.sets_long)
 
   few : (d : ℕ) → d < f.colours → d < 8
@@ -60,13 +60,13 @@ module _ {f : Netlist} {targets sets list : List ℕ} {k more : ℕ} {p : Port} 
 
   -- the sets after it
   abbrev after : List ℕ
-  after = set sets x (grown_set sets x more)
+  after = set sets channel (grown_set sets channel more)
 
-  pub at_x : get_or after x 0 ≡ grown_set sets x more
-  at_x = get_or-set_same sets x (grown_set sets x more) 0 there
+  pub at_x : get_or after channel 0 ≡ grown_set sets channel more
+  at_x = get_or-set_same sets channel (grown_set sets channel more) 0 there
 
-  pub off-x : (y : ℕ) → (y ≡ x → ⊥) → get_or after y 0 ≡ get_or sets y 0
-  off-x y ne = get_or-set_other sets x y (grown_set sets x more) 0 ne
+  pub off-x : (y : ℕ) → (y ≡ channel → ⊥) → get_or after y 0 ≡ get_or sets y 0
+  off-x y ne = get_or-set_other sets channel y (grown_set sets channel more) 0 ne
 
   -- a colour of a set, from C on too
   in-set : (s : List ℕ) (y d : ℕ) → d < 8 → has_colour (get_or s y 0) d ≡ true → in_bytes s y d ≡ true
@@ -81,26 +81,26 @@ module _ {f : Netlist} {targets sets list : List ℕ} {k more : ℕ} {p : Port} 
 
   -- nothing is lost, and what was let out is there
   pub grows : (y d : ℕ) → in_bytes sets y d ≡ true → in_bytes after y d ≡ true
-  grows y d e = go (ℕ_discrete y x)
+  grows y d e = go (ℕ_discrete y channel)
     where
-      go : Dec (y ≡ x) → in_bytes after y d ≡ true
+      go : Dec (y ≡ channel) → in_bytes after y d ≡ true
       go (yes q) =
           let z = set-in sets y d e in
           subst (λ (w : ℕ). in_bytes after w d ≡ true) (sym q)
-          (in-set after x d z.0 (ap (λ (b : ℕ). has_colour b d) at_x ∙ has-or (get_or sets x 0) more d ∙ or_left _ (has_colour more d) (subst (λ (w : ℕ). has_colour (get_or sets w 0) d ≡ true) q z.1)))
+          (in-set after channel d z.0 (ap (λ (b : ℕ). has_colour b d) at_x ∙ has-or (get_or sets channel 0) more d ∙ or_left _ (has_colour more d) (subst (λ (w : ℕ). has_colour (get_or sets w 0) d ≡ true) q z.1)))
       go (no q) = ap (λ (b : ℕ). ltb d 8 && has_colour b d) (off-x y q) ∙ e
 
-  added : (d : ℕ) → d < 8 → has_colour more d ≡ true → in_bytes after x d ≡ true
-  added d l e = in-set after x d l (ap (λ (b : ℕ). has_colour b d) at_x ∙ has-or (get_or sets x 0) more d ∙ or_right (has_colour (get_or sets x 0) d) _ e)
+  added : (d : ℕ) → d < 8 → has_colour more d ≡ true → in_bytes after channel d ≡ true
+  added d l e = in-set after channel d l (ap (λ (b : ℕ). has_colour b d) at_x ∙ has-or (get_or sets channel 0) more d ∙ or_right (has_colour (get_or sets channel 0) d) _ e)
 
   -- and nothing else is new
-  new-at : (d : ℕ) → in_bytes after x d ≡ true → (in_bytes sets x d ≡ true) ⊎ (has_colour more d ≡ true)
+  new-at : (d : ℕ) → in_bytes after channel d ≡ true → (in_bytes sets channel d ≡ true) ⊎ (has_colour more d ≡ true)
   new-at d e =
-      let z = set-in after x d e in
-      go (has_colour (get_or sets x 0) d) refl z.0 (sym (has-or (get_or sets x 0) more d) ∙ sym (ap (λ (b : ℕ). has_colour b d) at_x) ∙ z.1)
+      let z = set-in after channel d e in
+      go (has_colour (get_or sets channel 0) d) refl z.0 (sym (has-or (get_or sets channel 0) more d) ∙ sym (ap (λ (b : ℕ). has_colour b d) at_x) ∙ z.1)
     where
-      go : (t : Bool) → has_colour (get_or sets x 0) d ≡ t → d < 8 → (has_colour (get_or sets x 0) d || has_colour more d) ≡ true → (in_bytes sets x d ≡ true) ⊎ (has_colour more d ≡ true)
-      go true q l o = inl (in-set sets x d l q)
+      go : (t : Bool) → has_colour (get_or sets channel 0) d ≡ t → d < 8 → (has_colour (get_or sets channel 0) d || has_colour more d) ≡ true → (in_bytes sets channel d ≡ true) ⊎ (has_colour more d ≡ true)
+      go true q l o = inl (in-set sets channel d l q)
       go false q l o = inr (rw q at o)
 
   -- ---- what is let out, as bytes and as sets
@@ -112,7 +112,7 @@ module _ {f : Netlist} {targets sets list : List ℕ} {k more : ℕ} {p : Port} 
       (passed-more f.colours r (has_colour (get_or sets (port r A) 0)) (has_colour (get_or sets (port r B) 0)) (in_bytes sets (port r A)) (in_bytes sets (port r B)) d (ltb-true d f.colours z.0) (kind r) p
       (λ _ i m t. in-set sets (port r A) i (few i m) t) (λ _ i m t. in-set sets (port r B) i (few i m) t) z.1)
 
-  pub passed-more-bits : (d : ℕ) → passed_at f (in_bytes sets) k p d ≡ true → in_bytes after x d ≡ true
+  pub passed-more-bits : (d : ℕ) → passed_at f (in_bytes sets) k p d ≡ true → in_bytes after channel d ≡ true
   passed-more-bits d e =
       let r = row_of f k in
       let z = and_both (ltb d f.colours) _ e in
@@ -125,24 +125,24 @@ module _ {f : Netlist} {targets sets list : List ℕ} {k more : ℕ} {p : Port} 
 
   -- ---- the sets stay inside the relation
   pub inside : (y d : ℕ) → y < f.channels → in_bytes after y d ≡ true → Reaches f y d
-  inside y d l e = go (ℕ_discrete y x)
+  inside y d l e = go (ℕ_discrete y channel)
     where
-      at : (in_bytes sets x d ≡ true) ⊎ (has_colour more d ≡ true) → in_bytes after x d ≡ true → Reaches f x d
-      at (inl q) e = h.spreading.inside x d below q
+      at : (in_bytes sets channel d ≡ true) ⊎ (has_colour more d ≡ true) → in_bytes after channel d ≡ true → Reaches f channel d
+      at (inl q) e = h.spreading.inside channel d below q
       at (inr q) e =
-          passed-reaches f k h.low (in_bytes sets) (λ q i. h.spreading.inside (port (row_of f k) q) i ((h.accepted.rows k h.low).ports q)) p h.output d (more-passed d (set-in after x d e).0 q)
+          passed-reaches f k h.low (in_bytes sets) (λ q i. h.spreading.inside (port (row_of f k) q) i ((h.accepted.rows k h.low).ports q)) p h.output d (more-passed d (set-in after channel d e).0 q)
 
-      go : Dec (y ≡ x) → Reaches f y d
+      go : Dec (y ≡ channel) → Reaches f y d
       go (yes q) =
-          let e' : in_bytes after x d ≡ true = subst (λ (w : ℕ). in_bytes after w d ≡ true) q e in
+          let e' : in_bytes after channel d ≡ true = subst (λ (w : ℕ). in_bytes after w d ≡ true) q e in
           subst (λ (w : ℕ). Reaches f w d) (sym q) (at (new-at d e') e')
       go (no q) = h.spreading.inside y d l (ap (λ (b : ℕ). ltb d 8 && has_colour b d) (sym (off-x y q)) ∙ e)
 
   pub small : (y : ℕ) → get_or after y 0 < 256
-  small y = go (ℕ_discrete y x)
+  small y = go (ℕ_discrete y channel)
     where
-      go : Dec (y ≡ x) → get_or after y 0 < 256
-      go (yes q) = subst (λ (w : ℕ). get_or after w 0 < 256) (sym q) (subst (λ (w : ℕ). w < 256) (sym at_x) (or_lt 8 (get_or sets x 0) more (h.spreading.small x) h.fits))
+      go : Dec (y ≡ channel) → get_or after y 0 < 256
+      go (yes q) = subst (λ (w : ℕ). get_or after w 0 < 256) (sym q) (subst (λ (w : ℕ). w < 256) (sym at_x) (or_lt 8 (get_or sets channel 0) more (h.spreading.small channel) h.fits))
       go (no q) = subst (λ (w : ℕ). w < 256) (sym (off-x y q)) (h.spreading.small y)
 
   -- ---- how many members the sets have
@@ -152,23 +152,23 @@ module _ {f : Netlist} {targets sets list : List ℕ} {k more : ℕ} {p : Port} 
 
   -- a colour that is new
   fresh : ℕ → Bool
-  fresh d = has_colour more d && not (has_colour (get_or sets x 0) d)
+  fresh d = has_colour more d && not (has_colour (get_or sets channel 0) d)
 
-  no-fresh : some 8 fresh ≡ false → grown_set sets x more ≡ get_or sets x 0
+  no-fresh : some 8 fresh ≡ false → grown_set sets channel more ≡ get_or sets channel 0
   unfolding fresh
   no-fresh e =
-      byte-is (has_colour (get_or sets x 0)) (grown_set sets x more) (or_lt 8 (get_or sets x 0) more (h.spreading.small x) h.fits) same
-      ∙ sym (byte-is (has_colour (get_or sets x 0)) (get_or sets x 0) (h.spreading.small x) (λ d l. refl))
+      byte-is (has_colour (get_or sets channel 0)) (grown_set sets channel more) (or_lt 8 (get_or sets channel 0) more (h.spreading.small channel) h.fits) same
+      ∙ sym (byte-is (has_colour (get_or sets channel 0)) (get_or sets channel 0) (h.spreading.small channel) (λ d l. refl))
     where
       old : (a b : Bool) → (b && not a) ≡ false → (a || b) ≡ a
       old true b q = refl
       old false true q = absurd (true≢false q)
       old false false q = refl
 
-      same : (d : ℕ) → d < 8 → has_colour (grown_set sets x more) d ≡ has_colour (get_or sets x 0) d
-      same d l = has-or (get_or sets x 0) more d ∙ old (has_colour (get_or sets x 0) d) (has_colour more d) (some-none fresh 8 e d l)
+      same : (d : ℕ) → d < 8 → has_colour (grown_set sets channel more) d ≡ has_colour (get_or sets channel 0) d
+      same d l = has-or (get_or sets channel 0) more d ∙ old (has_colour (get_or sets channel 0) d) (has_colour more d) (some-none fresh 8 e d l)
 
-  pub members-new : (grown_set sets x more ≡ get_or sets x 0 → ⊥) → members f sets < members f after
+  pub members-new : (grown_set sets channel more ≡ get_or sets channel 0 → ⊥) → members f sets < members f after
   unfolding members fresh
   members-new ne = go (some 8 fresh) refl
     where
@@ -177,42 +177,42 @@ module _ {f : Netlist} {targets sets list : List ℕ} {k more : ℕ} {p : Port} 
       go true e =
           let m = some_is fresh 8 e in
           let d : ℕ = m.0 in
-          let z = and_both (has_colour more d) (not (has_colour (get_or sets x 0) d)) m.2 in
-          let ex : (8 * x + d) / 8 ≡ x = omega (arith, m.1) in
-          let ed : (8 * x + d) % 8 ≡ d = omega (arith, m.1) in
-          count-new (λ v. in_bytes sets (v / 8) (v % 8)) (λ v. in_bytes after (v / 8) (v % 8)) (8 * f.channels) (λ v l. grows (v / 8) (v % 8)) (8 * x + d) (omega (arith, m.1, below))
-          (rw (ex, ed) (ap (λ (b : Bool). ltb d 8 && b) (not-true (has_colour (get_or sets x 0) d) z.1) ∙ and-false (ltb d 8))) (rw (ex, ed) (added d m.1 z.0))
+          let z = and_both (has_colour more d) (not (has_colour (get_or sets channel 0) d)) m.2 in
+          let ex : (8 * channel + d) / 8 ≡ channel = omega (arith, m.1) in
+          let ed : (8 * channel + d) % 8 ≡ d = omega (arith, m.1) in
+          count-new (λ v. in_bytes sets (v / 8) (v % 8)) (λ v. in_bytes after (v / 8) (v % 8)) (8 * f.channels) (λ v l. grows (v / 8) (v % 8)) (8 * channel + d) (omega (arith, m.1, below))
+          (rw (ex, ed) (ap (λ (b : Bool). ltb d 8 && b) (not-true (has_colour (get_or sets channel 0) d) z.1) ∙ and-false (ltb d 8))) (rw (ex, ed) (added d m.1 z.0))
 
-  -- ---- the component that takes from x
+  -- ---- the component that takes from channel
   abbrev taker : ℕ
-  taker = get_or targets x 0
+  taker = get_or targets channel 0
 
   pub taker-low : taker < f.components
   taker-low =
-      let s : ℕ = 2 * x + 1 in
+      let s : ℕ = 2 * channel + 1 in
       let odd : s % 2 ≡ 1 = omega arith in
-      let half : s / 2 ≡ x = omega arith in
+      let half : s / 2 ≡ channel = omega arith in
       let l : s < 2 * f.channels = omega (arith, below) in
       let j : ℕ = end_of f.table f.components s / 3 in
       let q : Port = end_port (end_of f.table f.components s) in
       let m : j < f.components = giver f h.ends h.order h.accepted s l in
       let i : is_input (port_use (kind (row_of f j)) q) ≡ true =
       subst (λ (n : ℕ). on_side (eqb n 0) (port_use (kind (row_of f j)) q) ≡ true) odd (given-side f h.ends h.order h.accepted s l) in
-      let c : port (row_of f j) q ≡ x = given-channel f h.ends h.order h.accepted s l ∙ half in
+      let c : port (row_of f j) q ≡ channel = given-channel f h.ends h.order h.accepted s l ∙ half in
       subst (λ (n : ℕ). n < f.components) (sym (h.targeted.at j m q i) ∙ ap (λ (n : ℕ). get_or targets n 0) c) m
 
   -- what comes in at component j is as it was
   abbrev pub Quiet : ℕ → Type 0
   Quiet j = (q : Port) → is_input (port_use (kind (row_of f j)) q) ≡ true → Among f.colours (in_bytes after (port (row_of f j) q)) (in_bytes sets (port (row_of f j) q))
 
-  unread : (j : ℕ) (q : Port) → (port (row_of f j) q ≡ x → ⊥) → Among f.colours (in_bytes after (port (row_of f j) q)) (in_bytes sets (port (row_of f j) q))
+  unread : (j : ℕ) (q : Port) → (port (row_of f j) q ≡ channel → ⊥) → Among f.colours (in_bytes after (port (row_of f j) q)) (in_bytes sets (port (row_of f j) q))
   unread j q ne d m e = ap (λ (b : ℕ). ltb d 8 && has_colour b d) (sym (off-x (port (row_of f j) q) ne)) ∙ e
 
   -- where nothing is new
-  pub quiet-old : grown_set sets x more ≡ get_or sets x 0 → (j : ℕ) → Quiet j
-  quiet-old g j q i d m e = by_place (ℕ_discrete (port (row_of f j) q) x)
+  pub quiet-old : grown_set sets channel more ≡ get_or sets channel 0 → (j : ℕ) → Quiet j
+  quiet-old g j q i d m e = by_place (ℕ_discrete (port (row_of f j) q) channel)
     where
-      by_place : Dec (port (row_of f j) q ≡ x) → in_bytes sets (port (row_of f j) q) d ≡ true
+      by_place : Dec (port (row_of f j) q ≡ channel) → in_bytes sets (port (row_of f j) q) d ≡ true
       by_place (yes z) = ap (λ (b : ℕ). ltb d 8 && has_colour b d) (ap (λ (w : ℕ). get_or sets w 0) z ∙ sym g ∙ sym at_x ∙ ap (λ (w : ℕ). get_or after w 0) (sym z)) ∙ e
       by_place (no z) = unread j q z d m e
 
@@ -229,20 +229,20 @@ module _ {f : Netlist} {targets sets list : List ℕ} {k more : ℕ} {p : Port} 
       (passed-more f.colours r (in_bytes after (port r A)) (in_bytes after (port r B)) (in_bytes sets (port r A)) (in_bytes sets (port r B)) d (ltb-true d f.colours z.0) (kind r) q (quiet A) (quiet B) z.1)
 
   -- ---- the list after it, where those of some components are put on it to which something new comes
-  module _ (had : ℕ → Bool) {list' : List ℕ} (el : list' ≡ cond (not (eqb (grown_set sets x more) (get_or sets x 0)) && had taker) (list ++ taker ∷ []) list) where
+  module _ (had : ℕ → Bool) {list' : List ℕ} (el : list' ≡ cond (not (eqb (grown_set sets channel more) (get_or sets channel 0)) && had taker) (list ++ taker ∷ []) list) where
     -- the ways of the list
     data Way : Type 0 where
-      put : (grown_set sets x more ≡ get_or sets x 0 → ⊥) → had taker ≡ true → list' ≡ list ++ taker ∷ [] → length list' ≡ length list + 1 → Way
+      put : (grown_set sets channel more ≡ get_or sets channel 0 → ⊥) → had taker ≡ true → list' ≡ list ++ taker ∷ [] → length list' ≡ length list + 1 → Way
       later : had taker ≡ false → list' ≡ list → length list' ≡ length list → Way
-      old : grown_set sets x more ≡ get_or sets x 0 → list' ≡ list → length list' ≡ length list → Way
+      old : grown_set sets channel more ≡ get_or sets channel 0 → list' ≡ list → length list' ≡ length list → Way
 
     way : Way
-    way = go (not (eqb (grown_set sets x more) (get_or sets x 0))) refl (had taker) refl el
+    way = go (not (eqb (grown_set sets channel more) (get_or sets channel 0))) refl (had taker) refl el
       where
-        go : (b : Bool) → not (eqb (grown_set sets x more) (get_or sets x 0)) ≡ b → (c : Bool) → had taker ≡ c → list' ≡ cond (b && c) (list ++ taker ∷ []) list → Way
-        go true q true r a = put (eqb-false _ _ (not-true (eqb (grown_set sets x more) (get_or sets x 0)) q)) r a (ap length a ∙ length-append list (taker ∷ []))
+        go : (b : Bool) → not (eqb (grown_set sets channel more) (get_or sets channel 0)) ≡ b → (c : Bool) → had taker ≡ c → list' ≡ cond (b && c) (list ++ taker ∷ []) list → Way
+        go true q true r a = put (eqb-false _ _ (not-true (eqb (grown_set sets channel more) (get_or sets channel 0)) q)) r a (ap length a ∙ length-append list (taker ∷ []))
         go true q false r a = later r a (ap length a)
-        go false q c r a = old (eqb-true (grown_set sets x more) (get_or sets x 0) (not-false (eqb (grown_set sets x more) (get_or sets x 0)) q)) a (ap length a)
+        go false q c r a = old (eqb-true (grown_set sets channel more) (get_or sets channel 0) (not-false (eqb (grown_set sets channel more) (get_or sets channel 0)) q)) a (ap length a)
 
     pub paid : length list' + members f sets ≤ length list + members f after
     paid = go way
@@ -261,15 +261,15 @@ module _ {f : Netlist} {targets sets list : List ℕ} {k more : ℕ} {p : Port} 
         go (later l a b) = (i, omega (arith, hi, b), ap (λ (w : List ℕ). get_or w i 0) a ∙ e)
         go (old q a b) = (i, omega (arith, hi, b), ap (λ (w : List ℕ). get_or w i 0) a ∙ e)
 
-    pub waited : (j : ℕ) → Waits list' j → Waits list j ⊎ ((taker ≡ j) × (had taker ≡ true) × (grown_set sets x more ≡ get_or sets x 0 → ⊥))
+    pub waited : (j : ℕ) → Waits list' j → Waits list j ⊎ ((taker ≡ j) × (had taker ≡ true) × (grown_set sets channel more ≡ get_or sets channel 0 → ⊥))
     waited j (i, hi, e) = go way
       where
-        go : Way → Waits list j ⊎ ((taker ≡ j) × (had taker ≡ true) × (grown_set sets x more ≡ get_or sets x 0 → ⊥))
+        go : Way → Waits list j ⊎ ((taker ≡ j) × (had taker ≡ true) × (grown_set sets channel more ≡ get_or sets channel 0 → ⊥))
         go (later l a b) = inl (i, omega (arith, hi, b), ap (λ (w : List ℕ). get_or w i 0) (sym a) ∙ e)
         go (old q a b) = inl (i, omega (arith, hi, b), ap (λ (w : List ℕ). get_or w i 0) (sym a) ∙ e)
         go (put n l a b) = by_place (ℕ_discrete i (length list))
           where
-            by_place : Dec (i ≡ length list) → Waits list j ⊎ ((taker ≡ j) × (had taker ≡ true) × (grown_set sets x more ≡ get_or sets x 0 → ⊥))
+            by_place : Dec (i ≡ length list) → Waits list j ⊎ ((taker ≡ j) × (had taker ≡ true) × (grown_set sets channel more ≡ get_or sets channel 0 → ⊥))
             by_place (yes q) =
                 inr (sym (ap (λ (w : List ℕ). get_or w (length list) 0) a ∙ get_or-append_seam list taker [] 0) ∙ ap (λ (n : ℕ). get_or list' n 0) (sym q) ∙ e, l, n)
             by_place (no q) =
@@ -306,7 +306,7 @@ module _ {f : Netlist} {targets sets list : List ℕ} {k more : ℕ} {p : Port} 
 
     pub spread-on : Spreading f after list'
     spread-on = record {
-      sets_long = length-set sets x (grown_set sets x more) ∙ h.spreading.sets_long;
+      sets_long = length-set sets channel (grown_set sets channel more) ∙ h.spreading.sets_long;
       small = small;
       inside = inside;
       few = omega (arith, paid, h.spreading.few);
@@ -351,17 +351,17 @@ module _ {f : Netlist} {targets sets list : List ℕ} {next k more : ℕ} {p : P
     lets = h.lets;
   }
 
-  abbrev z : ℕ
-  z = port (row_of f k) p
+  abbrev x : ℕ
+  x = port (row_of f k) p
 
   -- so there is room on the list
-  room : listed sets targets next z more ≡ true → length list < most_flows
+  room : listed sets targets next x more ≡ true → length list < most_flows
   unfolding members
   room e =
-      let n = eqb-false _ _ (not-true (eqb (grown_set sets z more) (get_or sets z 0)) (and_both (not (eqb (grown_set sets z more) (get_or sets z 0))) (ltb (get_or targets z 0) next) e).0) in
-      omega (arith, members-new out n, h.spreading.few, count-le (λ v. in_bytes (set sets z (grown_set sets z more)) (v / 8) (v % 8)) (8 * f.channels), h.accepted.few_channels)
+      let n = eqb-false _ _ (not-true (eqb (grown_set sets x more) (get_or sets x 0)) (and_both (not (eqb (grown_set sets x more) (get_or sets x 0))) (ltb (get_or targets x 0) next) e).0) in
+      omega (arith, members-new out n, h.spreading.few, count-le (λ v. in_bytes (set sets x (grown_set sets x more)) (v / 8) (v % 8)) (8 * f.channels), h.accepted.few_channels)
 
-  passed_on : {sets' list' : List ℕ} → sets' ≡ set sets z (grown_set sets z more) → list' ≡ cond (listed sets targets next z more) (list ++ get_or targets z 0 ∷ []) list
+  passed_on : {sets' list' : List ℕ} → sets' ≡ set sets x (grown_set sets x more) → list' ≡ cond (listed sets targets next x more) (list ++ get_or targets x 0 ∷ []) list
       → PassedOn f next sets list sets' list' (λ q. q ≡ p) k
   passed_on {sets'} {list'} es el =
       let had : ℕ → Bool = λ j. ltb j next in
@@ -369,11 +369,11 @@ module _ {f : Netlist} {targets sets list : List ℕ} {next k more : ℕ} {p : P
       (record {
         spreading = spread-on out had el;
         onward = record { paid = paid out had el; keeps = λ j m. keeps out had el j (omega (arith, m, h.within)) (lt-ltb j next m) };
-        covers = λ q e. subst (λ (w : Port). Covered f (set sets z (grown_set sets z more)) list' k w) (sym e) (covers out had el (lt-ltb k next h.turn));
+        covers = λ q e. subst (λ (w : Port). Covered f (set sets x (grown_set sets x more)) list' k w) (sym e) (covers out had el (lt-ltb k next h.turn));
       })
 
   -- ---- with the channel as the code reads it
-  module _ {y : ℕ} (e : y ≡ z) where
+  module _ {y : ℕ} (e : y ≡ x) where
     pub room_at : listed sets targets next y more ≡ true → length list < most_flows
     room_at q = room (subst (λ (w : ℕ). listed sets targets next w more ≡ true) e q)
 
