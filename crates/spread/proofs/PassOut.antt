@@ -324,7 +324,7 @@ module _ {f : Netlist} {targets sets list : List ℕ} {k more : ℕ} {p : Port} 
                 let l : i < length list = omega (arith, m, b, e) in
                 subst (λ (n : ℕ). n < f.components) (sym (get_or-append list (taker ∷ []) 0 i l)) (h.spreading.named i l)
 
--- ---- the first `next` components had their first turn
+-- ---- the same where the first `next` components had a turn
 pub record Passing (f : Netlist) (targets : List ℕ) (next : ℕ) (sets list : List ℕ) (k : ℕ) (p : Port) (more : ℕ) : Type 0 where
   pub ends : List ℕ
   pub order : List ℕ
