@@ -21,7 +21,7 @@ use Rattle.netlist.specs.Netlist.{Netlist, row_of}
 use Rattle.netlist.specs.Accepted.{AcceptedFabric}
 use Rattle.reach.specs.Rounds.{passed}
 use Rattle.spread.specs.Spread.{IsSet, Below, in_bytes, Targets, grown_set, Spreading, members, Waits, Covered}
-use Rattle.spread.specs.InTurn.{one_less, listed_in_turn, SpreadingInTurn, dues, Due, most_turns, Further, PassedOnInTurn}
+use Rattle.spread.specs.InTurn.{one_less, listed_in_turn, SpreadingInTurn, dues, Due, most_turns, PassedOnInTurn, Further, FurtherTurns}
 use Rattle.spread.proofs.PassOut.{LetsOut, taker-low, grows, inside, small, members-more, members-new, passed-more-bits, Quiet, quiet-old, quiet-other, quiet-passed, paid, waited, keeps, covers, spread-on, below-sets}
 
 -- component k at its output port p, where more is what it lets out
@@ -262,8 +262,8 @@ module _ {f : Netlist} {targets sets to_come list : List ℕ} {k more : ℕ} {p 
                 subst (λ (n : ℕ). (n < f.components) × Due come n) (sym (get_or-append list (taker ∷ []) 0 i l)) (z.0, stays (get_or list i 0) z.1)
 
     -- and the same of those that wait for a further turn: the taker is put on their list where it is due and something is new
-    further : (turns : List ℕ) → Spreading f sets turns → (turns' : List ℕ) × Further f sets to_come turns after turns' list' (λ q. q ≡ p) k
-    further turns s = (
+    further_on : (turns : List ℕ) → Spreading f sets turns → (turns' : List ℕ) × Further f sets to_come turns after turns' list' (λ q. q ≡ p) k
+    further_on turns s = (
       turns',
       record {
         passed = λ next m due. record {
@@ -298,6 +298,9 @@ module _ {f : Netlist} {targets sets to_come list : List ℕ} {k more : ℕ} {p 
             go (early q s) = absurd (omega (arith, q, z))
             go (old q g s) = absurd (n g)
 
+    further_turns : FurtherTurns f sets to_come sets' list' (λ q. q ≡ p) k
+    further_turns = rw es (record { turns = further_on })
+
     passed_on : PassedOnInTurn f sets to_come list sets' to_come' list' (λ q. q ≡ p) k
     passed_on =
         rw (es, ec)
@@ -305,7 +308,6 @@ module _ {f : Netlist} {targets sets to_come list : List ℕ} {k more : ℕ} {p 
           spreading = spread-in-turn;
           onward = record { paid = paid-in-turn; still = still-waits; stays = stays; keeps = keeps-due; fresh = fresh-waits };
           covers = λ q e. subst (λ (w : Port). Covered f after list' k w) (sym e) covers-port;
-          further = further;
         })
 
   -- ---- with the channel as the code reads it
@@ -320,6 +322,14 @@ module _ {f : Netlist} {targets sets to_come list : List ℕ} {k more : ℕ} {p 
         → list' ≡ cond (listed_in_turn sets targets to_come y more) (list ++ get_or targets y 0 ∷ []) list → PassedOnInTurn f sets to_come list sets' to_come' list' (λ q. q ≡ p) k
     passed-in-turn {sets'} {to_come'} {list'} es ec el =
         passed_on
+        (subst (λ (w : ℕ). sets' ≡ set sets w (grown_set sets w more)) e es)
+        (subst (λ (w : ℕ). to_come' ≡ one_less to_come (get_or targets w 0)) e ec)
+        (subst (λ (w : ℕ). list' ≡ cond (listed_in_turn sets targets to_come w more) (list ++ get_or targets w 0 ∷ []) list) e el)
+
+    pub further-in-turn : {sets' to_come' list' : List ℕ} → sets' ≡ set sets y (grown_set sets y more) → to_come' ≡ one_less to_come (get_or targets y 0)
+        → list' ≡ cond (listed_in_turn sets targets to_come y more) (list ++ get_or targets y 0 ∷ []) list → FurtherTurns f sets to_come sets' list' (λ q. q ≡ p) k
+    further-in-turn {sets'} {to_come'} {list'} es ec el =
+        further_turns
         (subst (λ (w : ℕ). sets' ≡ set sets w (grown_set sets w more)) e es)
         (subst (λ (w : ℕ). to_come' ≡ one_less to_come (get_or targets w 0)) e ec)
         (subst (λ (w : ℕ). list' ≡ cond (listed_in_turn sets targets to_come w more) (list ++ get_or targets w 0 ∷ []) list) e el)

@@ -228,7 +228,7 @@ module _ {f : Netlist} {targets sets list : List ℕ} {k more : ℕ} {p : Port} 
       both_true z.0
       (passed-more f.colours r (in_bytes after (port r A)) (in_bytes after (port r B)) (in_bytes sets (port r A)) (in_bytes sets (port r B)) d (ltb-true d f.colours z.0) (kind r) q (quiet A) (quiet B) z.1)
 
-  -- ---- the list after it, where those of some components are put on it to which something new comes
+  -- ---- the list after it, where the taker is put on it if something new comes and `had` holds of it
   module _ (had : ℕ → Bool) {list' : List ℕ} (el : list' ≡ cond (not (eqb (grown_set sets channel more) (get_or sets channel 0)) && had taker) (list ++ taker ∷ []) list) where
     -- the ways of the list
     data Way : Type 0 where
@@ -358,7 +358,7 @@ module _ {f : Netlist} {targets sets list : List ℕ} {next k more : ℕ} {p : P
   room : listed sets targets next x more ≡ true → length list < most_flows
   unfolding members
   room e =
-      let n = eqb-false _ _ (not-true (eqb (grown_set sets x more) (get_or sets x 0)) (and_both (not (eqb (grown_set sets x more) (get_or sets x 0))) (ltb (get_or targets x 0) next) e).0) in
+      let n : grown_set sets x more ≡ get_or sets x 0 → ⊥ = eqb-false _ _ (not-true (eqb (grown_set sets x more) (get_or sets x 0)) (and_both (not (eqb (grown_set sets x more) (get_or sets x 0))) (ltb (get_or targets x 0) next) e).0) in
       omega (arith, members-new out n, h.spreading.few, count-le (λ v. in_bytes (set sets x (grown_set sets x more)) (v / 8) (v % 8)) (8 * f.channels), h.accepted.few_channels)
 
   passed_on : {sets' list' : List ℕ} → sets' ≡ set sets x (grown_set sets x more) → list' ≡ cond (listed sets targets next x more) (list ++ get_or targets x 0 ∷ []) list

@@ -155,6 +155,6 @@ module _ {f : Netlist} {sets to_come list : List ℕ} (s : Settled f sets to_com
   pub settled-covered : {n : ℕ} → n ≤ f.components → ((k : ℕ) → k < n → Due to_come k) → CoveredTo f sets list n
   settled-covered few all = record { covered = λ k l p o. s.covered.covered k (omega (arith, l, few)) (all k l) p o }
 
--- where all are due besides the sets are closed, so they are the smallest
+-- where nobody waits and all are due, the sets are closed, so they are the smallest
 pub set-bytes-in-turn : {f : Netlist} {ends order : List ℕ} → AcceptedFabric f ends order → {sets to_come list : List ℕ} → Settled f sets to_come list → ((k : ℕ) → k < f.components → Due to_come k) → SetBytes f sets
 set-bytes-in-turn a s all = set-bytes a (settled-spreading s) (settled-covered s (omega arith) all) s.nobody

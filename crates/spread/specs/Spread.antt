@@ -1,5 +1,5 @@
--- The sets while they are worked out, and the list of components that have to pass on what came in since their last turn. It describes the code, with specs/InTurn, where a component waits for its first turn on the same list;
--- `set-bytes` (proofs/WorkOut.antt) ties it to the sets of crate reach.
+-- The sets while they are worked out, and the list of components that have to pass on what came in since their last turn. `listed` and the first `next` components are of a round over all components in their order. The code does what
+-- specs/InTurn says in its place, where components wait for a first turn on the same list, and promises `Spreading` and `PassedOn` of further turns. `set-bytes` (proofs/WorkOut.antt) ties them to the sets of crate reach.
 use Rattle.std.specs.Prelude.{◌≡◌, ◌⊎◌, Bool, true, not, ◌&&◌, List, ℕ, ◌+◌, ◌*◌, ◌/◌, ◌%◌, ◌≤◌, ◌<◌, ltb, eqb, length, get_or}
 use Rattle.std.specs.Int.Bits.{bit_or}
 use Rattle.digits.specs.Count.{count}

@@ -12,7 +12,7 @@ ghost use Rattle.netlist.specs.View.{facts_of};
 ghost use Rattle.reach.specs.Rounds.{image, passed};
 ghost use Rattle.reach.specs.Known.{SetBytes};
 ghost use Rattle.spread.specs.Spread.{IsSet, Below, MapBelow, Targets, first_output, grown_set};
-ghost use Rattle.spread.specs.InTurn.{one_less, most_turns, listed_in_turn, SpreadingInTurn, PassedOnInTurn, Settled};
+ghost use Rattle.spread.specs.InTurn.{one_less, most_turns, listed_in_turn, SpreadingInTurn, PassedOnInTurn, FurtherTurns, Settled};
 
 use arrayvec::ArrayVec;
 use component::{Kind, MOST_COMPONENTS, MOST_FLOWS, Map, Port, Table};
@@ -193,7 +193,8 @@ impl Spread {
         requires before { SpreadingInTurn (facts_of takers.now.netlist) self.old.sets self.old.to_come self.old.waiting.items }
         requires turn { (k < takers.now.netlist.size.components) × (get_or self.old.to_come k 0 ≡ 0) }
         requires output { is_output (port_use (kind (row takers.now.netlist.table.bytes.now k)) port) ≡ true }
-        ensures { PassedOnInTurn (facts_of takers.now.netlist) self.old.sets self.old.to_come self.old.waiting.items self.new.sets self.new.to_come self.new.waiting.items (λ q. q ≡ port) k }
+        ensures passed { PassedOnInTurn (facts_of takers.now.netlist) self.old.sets self.old.to_come self.old.waiting.items self.new.sets self.new.to_come self.new.waiting.items (λ q. q ≡ port) k }
+        ensures further { FurtherTurns (facts_of takers.now.netlist) self.old.sets self.old.to_come self.new.sets self.new.waiting.items (λ q. q ≡ port) k }
     {
         let table = takers.netlist.table;
         let a = self.sets[table.port(k, Port::A) as usize];
@@ -206,7 +207,8 @@ impl Spread {
     fn pass_on(&mut self, takers: &Takers, k: usize)
         requires before { SpreadingInTurn (facts_of takers.now.netlist) self.old.sets self.old.to_come self.old.waiting.items }
         requires turn { (k < takers.now.netlist.size.components) × (get_or self.old.to_come k 0 ≡ 0) }
-        ensures { PassedOnInTurn (facts_of takers.now.netlist) self.old.sets self.old.to_come self.old.waiting.items self.new.sets self.new.to_come self.new.waiting.items (λ q. is_output (port_use (kind (row takers.now.netlist.table.bytes.now k)) q) ≡ true) k }
+        ensures passed { PassedOnInTurn (facts_of takers.now.netlist) self.old.sets self.old.to_come self.old.waiting.items self.new.sets self.new.to_come self.new.waiting.items (λ q. is_output (port_use (kind (row takers.now.netlist.table.bytes.now k)) q) ≡ true) k }
+        ensures further { FurtherTurns (facts_of takers.now.netlist) self.old.sets self.old.to_come self.new.sets self.new.waiting.items (λ q. is_output (port_use (kind (row takers.now.netlist.table.bytes.now k)) q) ≡ true) k }
     {
         let kind = takers.netlist.table.kind(k);
         if let Kind::Sink = kind {

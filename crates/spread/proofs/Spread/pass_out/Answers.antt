@@ -13,7 +13,7 @@ use Rattle.netlist.specs.Netlist.{Netlist}
 use Rattle.netlist.specs.View.{facts_of}
 use Rattle.netlist.proofs.Whole.{accepted_netlist}
 use Rattle.spread.specs.Spread.{Below}
-use Rattle.spread.proofs.OutInTurn.{PassingInTurn, taker-at, room-in-turn, passed-in-turn, below-in-turn}
+use Rattle.spread.proofs.OutInTurn.{PassingInTurn, taker-at, room-in-turn, passed-in-turn, further-in-turn, below-in-turn}
 use Rattle.spread.proofs.Spread.pass_out.Goals as goal
 use Rattle.spread.proofs.Spread.pass_out.Goals.{After-let_out-more, Start}
 
@@ -61,4 +61,9 @@ add-requires c =
     record { taker = (c.port-3.type_inv, taker-at h c.port-3.ensures); room = room-in-turn h c.port-3.ensures }
 
 pub returns : goal.returns
-returns c = passed-in-turn (passing (goal.at.returns c).After-let_out-more) c.port-3.ensures c.add.ensures.sets c.add.ensures.to_come c.add.ensures.waiting
+returns c =
+    let h = passing (goal.at.returns c).After-let_out-more in
+    record {
+      passed = passed-in-turn h c.port-3.ensures c.add.ensures.sets c.add.ensures.to_come c.add.ensures.waiting;
+      further = further-in-turn h c.port-3.ensures c.add.ensures.sets c.add.ensures.to_come c.add.ensures.waiting;
+    }
