@@ -58,8 +58,8 @@ pub record PassedOnInTurn (f : Netlist) (sets to_come list sets' to_come' list' 
   pub onward : OnwardInTurn f sets to_come list sets' to_come' list'
   pub covers : (p : Port) → done p → Covered f sets' list' k p
 
--- Of a list `again` before such a stretch of work and `again'` after it, meant for those that wait for a further turn: it is one as `PassedOn` has it, wherever the first `next` components are due; what was covered of a component that
--- is due is so afterwards; and who is new on `again'` is on the list.
+-- Of a list `again` before such a stretch of work and `again'` after it, meant for those that wait for a further turn: with these it is one as `PassedOn` has it, wherever the first `next` components are due; what was covered of a component that
+-- is due is so afterwards; and who is new on `again'` is on `list'`.
 pub record Further (f : Netlist) (sets to_come again sets' again' list' : List ℕ) (done : Port → Type 0) (k : ℕ) : Type 0 where
   pub passed : (next : ℕ) → next ≤ f.components → ((j : ℕ) → j < next → Due to_come j) → PassedOn f next sets again sets' again' done k
   pub keeps : (j : ℕ) → j < f.components → Due to_come j → (p : Port) → Covered f sets again j p → Covered f sets' again' j p
