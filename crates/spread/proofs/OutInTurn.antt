@@ -318,21 +318,21 @@ module _ {f : Netlist} {targets sets to_come list : List ℕ} {k more : ℕ} {p 
     pub room-in-turn : listed_in_turn sets targets to_come y more ≡ true → length list < most_turns
     room-in-turn q = room (subst (λ (w : ℕ). listed_in_turn sets targets to_come w more ≡ true) e q)
 
+    -- what `add` leaves at channel w
+    abbrev Added : ℕ → List ℕ → List ℕ → List ℕ → Type 0
+    Added w sets' to_come' list' =
+        (sets' ≡ set sets w (grown_set sets w more)) × (to_come' ≡ one_less to_come (get_or targets w 0)) × (list' ≡ cond (listed_in_turn sets targets to_come w more) (list ++ get_or targets w 0 ∷ []) list)
+
+    added : {sets' to_come' list' : List ℕ} → Added y sets' to_come' list' → Added x sets' to_come' list'
+    added {sets'} {to_come'} {list'} a = subst (λ (w : ℕ). Added w sets' to_come' list') e a
+
     pub passed-in-turn : {sets' to_come' list' : List ℕ} → sets' ≡ set sets y (grown_set sets y more) → to_come' ≡ one_less to_come (get_or targets y 0)
         → list' ≡ cond (listed_in_turn sets targets to_come y more) (list ++ get_or targets y 0 ∷ []) list → PassedOnInTurn f sets to_come list sets' to_come' list' (λ q. q ≡ p) k
-    passed-in-turn {sets'} {to_come'} {list'} es ec el =
-        passed_on
-        (subst (λ (w : ℕ). sets' ≡ set sets w (grown_set sets w more)) e es)
-        (subst (λ (w : ℕ). to_come' ≡ one_less to_come (get_or targets w 0)) e ec)
-        (subst (λ (w : ℕ). list' ≡ cond (listed_in_turn sets targets to_come w more) (list ++ get_or targets w 0 ∷ []) list) e el)
+    passed-in-turn es ec el = let (s, c, l) = added (es, ec, el) in passed_on s c l
 
     pub further-in-turn : {sets' to_come' list' : List ℕ} → sets' ≡ set sets y (grown_set sets y more) → to_come' ≡ one_less to_come (get_or targets y 0)
         → list' ≡ cond (listed_in_turn sets targets to_come y more) (list ++ get_or targets y 0 ∷ []) list → FurtherTurns f sets to_come sets' list' (λ q. q ≡ p) k
-    further-in-turn {sets'} {to_come'} {list'} es ec el =
-        further_turns
-        (subst (λ (w : ℕ). sets' ≡ set sets w (grown_set sets w more)) e es)
-        (subst (λ (w : ℕ). to_come' ≡ one_less to_come (get_or targets w 0)) e ec)
-        (subst (λ (w : ℕ). list' ≡ cond (listed_in_turn sets targets to_come w more) (list ++ get_or targets w 0 ∷ []) list) e el)
+    further-in-turn es ec el = let (s, c, l) = added (es, ec, el) in further_turns s c l
 
 -- the sets have colours below C alone
 pub below-in-turn : {f : Netlist} {ends order sets to_come list : List ℕ} → AcceptedFabric f ends order → SpreadingInTurn f sets to_come list → (y : ℕ) → y < f.channels → Below f.colours (get_or sets y 0)
